@@ -49,13 +49,13 @@ pub andThen-ok : {A B : Type 0} (r : Result A Fault) (f : A → Result B Fault) 
 andThen-ok (Ok x) f y e = (x, refl, e)
 andThen-ok (Err z) f y e = absurd (let q : _≡_ {A = ℕ} 0 1 = cc in omega arith)
 
-no : {A : Type 0} (x : Fault) (y : A) (G : Type 0) → Err x ≡ Ok y → G
-no x y G e = absurd (let q : _≡_ {A = ℕ} 0 1 = cc in omega arith)
+pub never-ok : {A : Type 0} (x : Fault) (y : A) (G : Type 0) → Err x ≡ Ok y → G
+never-ok x y G e = absurd (let q : _≡_ {A = ℕ} 0 1 = cc in omega arith)
 
 -- a test that has led to an answer
 pub tested : {A : Type 0} (b : Bool) (r : Result A Fault) (x : Fault) (y : A) → cond b r (Err x) ≡ Ok y → (b ≡ true) × (r ≡ Ok y)
 tested true r x y e = (refl, e)
-tested false r x y e = no x y _ e
+tested false r x y e = never-ok x y _ e
 
 pub next-was : (s : Section) (at : ℕ) (y : Unit {0}) → nextPart s at ≡ Ok y → HasNext s
 next-was s at y e = tested (nextAllowed s) (Ok tt) (Barred s at) y e .0
@@ -64,8 +64,8 @@ pub clock-was : (s : Section) (at : ℕ) (y : Unit {0}) → clockPart s at ≡ O
 clock-was s at y e = tested (clocksAllowed s) (Ok tt) (Barred s at) y e .0
 
 pair-was : (ns : List ℕ) (s : Section) (at m : ℕ) (bs : List ℕ) (p : ℕ × ℕ) → pair ns s at (m ∷ bs) ≡ Ok p → (p .0 < length ns) × (p .1 < getD ns (p .0) 0) × (bs ≡ p .0 ∷ p .1 ∷ drop 2 bs)
-pair-was ns s at m [] p e = no _ p _ e
-pair-was ns s at m (i ∷ []) p e = no _ p _ e
+pair-was ns s at m [] p e = never-ok _ p _ e
+pair-was ns s at m (i ∷ []) p e = never-ok _ p _ e
 pair-was ns s at m (i ∷ k ∷ bs) p e =
     let x = tested _ _ _ p e in
     let y = tested _ _ _ p (x .1) in
@@ -73,15 +73,15 @@ pair-was ns s at m (i ∷ k ∷ bs) p e =
     subst (λ q. (q .0 < length ns) × (q .1 < getD ns (q .0) 0) × (i ∷ k ∷ bs ≡ q .0 ∷ q .1 ∷ bs)) same (ltb-true _ _ (x .0), ltb-true _ _ (y .0), refl)
 
 single-was : (ns : List ℕ) (s : Section) (at m : ℕ) (bs : List ℕ) (p : ℕ) → single ns s at (m ∷ bs) ≡ Ok p → (p < length ns) × (bs ≡ p ∷ drop 1 bs)
-single-was ns s at m [] p e = no _ p _ e
+single-was ns s at m [] p e = never-ok _ p _ e
 single-was ns s at m (i ∷ bs) p e =
     let x = tested _ _ _ p e in
     let same : i ≡ p = cc (x .1) in
     subst (λ q. (q < length ns) × (i ∷ bs ≡ q ∷ bs)) same (ltb-true _ _ (x .0), refl)
 
 clocked-was : (n : ℕ) (s : Section) (at m : ℕ) (bs : List ℕ) (p : ℕ × ℕ) → clocked n s at (m ∷ bs) ≡ Ok p → (p .0 < n) × (p .1 ≤ 250) × (bs ≡ p .0 ∷ p .1 ∷ drop 2 bs)
-clocked-was n s at m [] p e = no _ p _ e
-clocked-was n s at m (i ∷ []) p e = no _ p _ e
+clocked-was n s at m [] p e = never-ok _ p _ e
+clocked-was n s at m (i ∷ []) p e = never-ok _ p _ e
 clocked-was n s at m (i ∷ k ∷ bs) p e =
     let x = tested _ _ _ p e in
     let y = tested _ _ _ p (x .1) in
@@ -124,7 +124,7 @@ module _ (ns : List ℕ) (n : ℕ) (s : Section) (at : ℕ) where
   bare-was m k bs x op h s e = made-of _ x op e (record { fit = h; bytes = s })
 
   pub reads : (bs : List ℕ) (op : Instruction) → instruction ns n s at bs ≡ Ok op → Reads ns n s bs op
-  reads [] op e = no _ op _ e
+  reads [] op e = never-ok _ op _ e
   reads (m ∷ bs) op given =
       let P : Result Instruction Fault → Type 0 = λ r. r ≡ Ok op → Reads ns n s (m ∷ bs) op in
       (cond-both (eqb m 118) _ _ P (λ t e. is-was m bs op (eqb-true m 118 t) e) (λ _.
@@ -139,4 +139,4 @@ module _ (ns : List ℕ) (n : ℕ) (s : Section) (at : ℕ) where
       cond-both (eqb m 33) _ _ P (λ t e. bare-was m 33 bs Not op tt (cc (eqb-true m 33 t)) e) (λ _.
       cond-both (eqb m 38) _ _ P (λ t e. bare-was m 38 bs And op tt (cc (eqb-true m 38 t)) e) (λ _.
       cond-both (eqb m 124) _ _ P (λ t e. bare-was m 124 bs Or op tt (cc (eqb-true m 124 t)) e) (λ _ e.
-      no _ op _ e))))))))))))) given
+      never-ok _ op _ e))))))))))))) given

@@ -1,0 +1,13 @@
+pub mod Clips
+pub mod Turns
+pub mod Cutting
+pub mod Counting
+pub mod Sizing
+pub mod Whole
+pub mod Formulas
+pub mod Begins
+pub mod Reaches
+pub mod Unique
+pub mod Lies
+pub mod Laws
+pub mod Asked

@@ -1,0 +1,8 @@
+pub mod Systems
+pub mod Reading
+pub mod Sizing
+pub mod Cuts
+pub mod Faults
+pub mod Promise
+pub mod Questions
+pub mod Parts
