@@ -1,0 +1,4 @@
+pub mod Ranged
+pub mod Radix
+pub mod Told
+pub mod Turns
