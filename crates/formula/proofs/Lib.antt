@@ -5,5 +5,6 @@ pub mod Back
 pub mod Broken
 pub mod Front
 pub mod Unique
+pub mod Ranged
 pub mod Scanned
 pub mod Told

@@ -1,6 +1,5 @@
 // How high the constants go that a clock is compared with.
 ghost use mathlib.Core.Path.{_≡_};
-ghost use Prim.Native.Nat.{max};
 ghost use Rattle.formula.specs.Counts.{valueCounts};
 ghost use Rattle.formula.specs.Heights.{Heights, constantOf};
 use super::instructions::Instruction;
@@ -18,12 +17,6 @@ fn constant_of(instruction: Instruction, clock: u8) -> u16
     }
 }
 
-fn larger(a: u16, b: u16) -> u16
-    ensures { λ r. ⌜ r ≡ max a b ⌝ }
-{
-    if a < b { b } else { a }
-}
-
 // The largest constant that a clock is compared with in a formula, or 0. Of bytes that are no
 // formula, the same of their instructions up to the first fault.
 pub fn highest(code: &[u8], sizes: &Sizes, clock: u8) -> u16
@@ -36,7 +29,7 @@ pub fn highest(code: &[u8], sizes: &Sizes, clock: u8) -> u16
         let Ok(instruction) = next_instruction(rest, 0, sizes, Section::Transition) else {
             return height;
         };
-        height = larger(height, constant_of(instruction, clock));
+        height = height.max(constant_of(instruction, clock));
         rest = &rest[width_of(instruction)..];
     }
     height

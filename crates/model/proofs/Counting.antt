@@ -4,7 +4,7 @@ use mathlib.Core.Bool.{Bool, true, false, cond, _&&_}
 use mathlib.Core.List.{List, [], _∷_, _++_, append-nil, append-assoc}
 use Prim.Native.Nat.{ℕ, _+_, _-_, _*_, _≤_, _<_}
 use native.Mathlib.Omega.{arith}
-use native.Mathlib.Nat.{mul-assoc, mul-le-mul, mul-le-mul-left}
+use native.Mathlib.Nat.{mul-assoc, mul-le-mul-left}
 use lib.Dec.{leb}
 use lib.ListN.{length}
 use Rattle.std.proofs.shelf.Tests.{leb-true, le-leb, and-parts, and-from}
@@ -13,6 +13,7 @@ use Rattle.std.specs.declared.result.Result.the-variants.{Ok, Err}
 use Rattle.formula.specs.declared.faults.Fault.{Fault}
 use Rattle.formula.specs.declared.faults.Fault.the-variants.{Product, ValueCount}
 use Rattle.formula.specs.Sizes.{product, ranged}
+use Rattle.formula.proofs.Ranged.{product-positive}
 use Rattle.formula.proofs.Inverse.{tested, andThen-ok, never-ok}
 use Rattle.model.specs.Systems.{Countable}
 use Rattle.model.specs.Reading.{counted, counting}
@@ -56,13 +57,6 @@ ranged-parts (n ∷ ns) ms h =
     let y = ranged-parts ns ms (x .1) in
     (and-from (leb 2 n && leb n 16) (ranged ns) (x .0) (y .0), y .1)
 
-product-some : (ns : List ℕ) → ranged ns ≡ true → 1 ≤ product ns
-product-some [] h = omega arith
-product-some (n ∷ ns) h =
-    let x = and-parts (leb 2 n && leb n 16) (ranged ns) h in
-    let y = and-parts (leb 2 n) (leb n 16) (x .0) in
-    mul-le-mul {n₁ = 1} {m₁ = 1} {n₂ = n} {m₂ = product ns} (omega (arith, leb-true 2 n (y .0))) (product-some ns (x .1))
-
 one-ranged : (k : ℕ) → 2 ≤ k → k ≤ 16 → ranged (k ∷ []) ≡ true
 one-ranged k a b = simp (le-leb 2 k a, le-leb k 16 b)
 
@@ -70,7 +64,7 @@ one-ranged k a b = simp (le-leb 2 k a, le-leb k 16 b)
 front-countable : (ns ms : List ℕ) → Countable (ns ++ ms) → Countable ns
 front-countable ns ms h =
     let r = ranged-parts ns ms (h .values) in
-    let m : product ns * 1 ≤ product ns * product ms = mul-le-mul-left {m = 1} {n = product ms} (product ns) (product-some ms (r .1)) in
+    let m : product ns * 1 ≤ product ns * product ms = mul-le-mul-left {m = 1} {n = product ms} (product ns) (product-positive ms (r .1)) in
     record { values = r .0; valuations = omega (arith, product-append ns ms, h .valuations) }
 
 pub none-countable : Countable []

@@ -1,6 +1,5 @@
 // The part of the caller's record that holds a formula.
 ghost use mathlib.Core.Path.{_≡_};
-ghost use Prim.Native.Nat.{min};
 ghost use lib.ListN.{take, drop, getD};
 ghost use Rattle.model.specs.Reading.{span};
 ghost use Rattle.model.specs.Parts.{spanOf, held, contents};
@@ -20,19 +19,13 @@ fn part_at<'a>(bytes: &'a [u8], span: Span) -> Part<'a>
     ensures bytes { λ r. ⌜ r .code .now ≡ take (span .len) (drop (span .at) (now (bytes .entry))) ⌝ }
     ensures position { λ r. ⌜ r .at ≡ span .at ⌝ }
 {
-    let from = smaller(span.at, bytes.len());
+    let from = span.at.min(bytes.len());
     let behind = &bytes[from..];
-    let len = smaller(span.len, behind.len());
+    let len = span.len.min(behind.len());
     Part {
         code: &behind[0..len],
         at: span.at,
     }
-}
-
-fn smaller(a: usize, b: usize) -> usize
-    ensures { λ r. ⌜ r ≡ min a b ⌝ }
-{
-    if a < b { a } else { b }
 }
 
 fn reset_of(resets: [Span; 4], clock: u8) -> Span

@@ -1,4 +1,3 @@
-pub mod Ranged
 pub mod Radix
 pub mod Told
 pub mod Turns

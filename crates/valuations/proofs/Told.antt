@@ -3,7 +3,6 @@ use mathlib.Core.Path.{_≡_, ap, _∙_}
 use mathlib.Core.Bool.{true, false}
 use mathlib.Core.List.{List, _++_}
 use Prim.Native.Nat.{ℕ, _-_}
-use native.Mathlib.Nat.{mod-eq-of-lt}
 use native.Mathlib.Omega.{arith}
 use lib.ListN.{length, replicate}
 use Rattle.std.specs.declared.option.Option.the-variants.{Some, None}
@@ -17,7 +16,7 @@ module _ (ns : List ℕ) (h : ranged ns ≡ true) where
       record {
         answer = e;
         inRange = ap (within ns) e ∙ digits-within ns v (replicate (8 - length ns) 0) h;
-        back = λ l. ap (number ns) e ∙ number-digits ns v (replicate (8 - length ns) 0) h ∙ mod-eq-of-lt l;
+        back = ap (number ns) e ∙ number-digits ns v (replicate (8 - length ns) 0) h;
       }
 
   pub unnumbered : (xs : List ℕ) → within ns xs ≡ false → Numbers ns xs None

@@ -10,7 +10,7 @@ use Rattle.std.proofs.shelf.Lists.{drop-all, drop-more, drop-replicate, drop-se
 use Rattle.std.proofs.shelf.Tests.{lt-ltb, le-ltb}
 use Rattle.formula.specs.Sizes.{product, ranged}
 use Rattle.valuations.specs.Radix.{number, digits, within}
-use Rattle.valuations.proofs.Ranged.{ranged-first, ranged-rest, ranged-drop, product-positive}
+use Rattle.formula.proofs.Ranged.{ranged-first, ranged-rest, ranged-drop, product-positive}
 
 -- past the last variable
 module _ (k i : ℕ) (cs : List ℕ) (end : k ≤ i) where

@@ -2,7 +2,7 @@
 use mathlib.Core.Path.{_≡_}
 use mathlib.Core.Bool.{Bool, true, false, cond, _&&_}
 use mathlib.Core.List.{List, [], _∷_, _++_}
-use Prim.Native.Nat.{ℕ, _+_, _-_, _*_, _/_, _%_, _≤_, _<_}
+use Prim.Native.Nat.{ℕ, _+_, _-_, _*_, _/_, _%_, _<_}
 use lib.Dec.{ltb}
 use lib.ListN.{length, take, replicate}
 use Rattle.std.specs.declared.option.Option.{Option}
@@ -30,7 +30,7 @@ within (n ∷ ns) (x ∷ xs) = ltb x n && within ns xs
 pub record Values (ns : List ℕ) (v : ℕ) (xs : List ℕ) : Type 0 where
   pub answer : xs ≡ digits ns v ++ replicate (8 - length ns) 0
   pub inRange : within ns xs ≡ true
-  pub back : v < product ns → number ns xs ≡ v
+  pub back : number ns xs ≡ v % product ns
 
 -- the number of a valuation by its values, or nothing where a value is out of range
 pub record Numbers (ns : List ℕ) (xs : List ℕ) (r : Option ℕ) : Type 0 where

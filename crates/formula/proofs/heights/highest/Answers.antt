@@ -19,7 +19,7 @@ returns-in-rest c =
 pub instructions-again : need.instructions-again
 instructions-again c =
     let e = turn _ _ _ (c .instructions .height) _ (c .instructions .rest .now) (omega (arith, c .in-Ok .ensures tt .fits)) (c .in-Ok .ensures tt .fits .0) (sym (c .in-Ok .ensures tt .is)) in
-    rw take-rest (simp length-drop (omega arith), simp (c .width-of .ensures, c .larger-height .ensures, c .constant-of .ensures) (sym e ∙ c .instructions .inv .1))
+    rw take-rest (simp length-drop (omega arith), simp (c .width-of .ensures, c .max-height .ensures, c .constant-of .ensures) (sym e ∙ c .instructions .inv .1))
 
 pub returns : need.returns
 returns c =
