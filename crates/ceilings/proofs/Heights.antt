@@ -3,8 +3,8 @@ use mathlib.Core.Path.{_≡_, refl}
 use mathlib.Core.List.{List, [], _∷_, _++_}
 use Prim.Native.Nat.{ℕ}
 use lib.ListN.{length, replicate}
-use Rattle.formula.specs.declared.sections.Section.{Section}
-use Rattle.formula.specs.declared.sections.Section.the-variants.{Clocks, Start, Invariant, Transition, Urgent}
+use Rattle.instruction.specs.declared.sections.Section.{Section}
+use Rattle.instruction.specs.declared.sections.Section.the-variants.{Clocks, Start, Invariant, Transition, Urgent}
 use Rattle.formula.specs.Formulas.{Formula}
 use Rattle.formula.specs.Heights.{height}
 use Rattle.formula.proofs.Scanned.{measured}

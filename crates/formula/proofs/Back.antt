@@ -9,26 +9,19 @@ use lib.ListN.{length, drop, getD, length-drop}
 use Rattle.std.proofs.shelf.Tests.{ltb-true, leb-true, eqb-true}
 use Rattle.std.specs.declared.result.Result.{Result}
 use Rattle.std.specs.declared.result.Result.the-variants.{Ok, Err}
-use Rattle.formula.specs.declared.faults.Fault.{Fault}
-use Rattle.formula.specs.declared.faults.Fault.the-variants.{UnknownMark, Barred, CutShort, Undeclared, OutOfRange, Waiting}
-use Rattle.formula.specs.declared.sections.Section.{Section}
-use Rattle.formula.specs.declared.instructions.Instruction.{Instruction}
-use Rattle.formula.specs.declared.instructions.Instruction.the-variants.{Is, Becomes, Stays, Clock, Always, Not, And, Or}
+use Rattle.instruction.specs.declared.faults.Fault.{Fault}
+use Rattle.instruction.specs.declared.faults.Fault.the-variants.{UnknownMark, Barred, CutShort, Undeclared, OutOfRange, Waiting}
+use Rattle.instruction.specs.declared.sections.Section.{Section}
+use Rattle.instruction.specs.declared.instructions.Instruction.{Instruction}
+use Rattle.instruction.specs.declared.instructions.Instruction.the-variants.{Is, Becomes, Stays, Clock, Always, Not, And, Or}
 use Rattle.formula.specs.Formulas.{Formula, is, becomes, stays, clock, always, not, and, or, written, depth, Allowed, Writes}
-use Rattle.formula.specs.Reader.{instruction, width, waits, oneMore, walk, andThen}
+use Rattle.instruction.specs.Reader.{instruction, width, waits, oneMore, andThen}
+use Rattle.formula.specs.Reader.{walk}
 use Rattle.formula.specs.Rules.{spell, Held}
 use Rattle.formula.proofs.Walks.{turn}
-use Rattle.formula.proofs.Inverse.{spelled, Fit, Reads, reads, tested, andThen-ok}
-
-pub wide : (op : Instruction) → 1 ≤ width op
-wide (Is i k) = omega arith
-wide (Becomes i k) = omega arith
-wide (Stays i) = omega arith
-wide (Clock o c j) = omega arith
-wide Always = omega arith
-wide Not = omega arith
-wide And = omega arith
-wide Or = omega arith
+use Rattle.instruction.proofs.Inverse.{reads, tested, andThen-ok}
+use Rattle.instruction.specs.Promise.{spelled, Fit, Reads}
+use Rattle.instruction.proofs.Told.{wide}
 
 counted : (b : Bool) (s : Section) (w at v : ℕ) → cond b (Ok w) (Err (Waiting s at)) ≡ Ok v → (b ≡ true) × (w ≡ v)
 counted b s w at v e = let x = tested b (Ok w) (Waiting s at) v e in (x .0, cc (x .1))
@@ -84,7 +77,7 @@ module _ (ns : List ℕ) (n : ℕ) (s : Section) where
       let y = andThen-ok (waits (x .0) s at (length ts)) _ tt (x .2) in
       let r = reads ns n s at (b ∷ bs) (x .0) (x .1) in
       let g = grown (x .0) ts at (y .0) (r .fit) h (y .1) in
-      let w = wide (x .0) in
+      let w = wide (x .0) .0 in
       let rest : List ℕ = drop (width (x .0)) (b ∷ bs) in
       let shorter : length rest ≤ fuel = simp length-drop (omega arith) in
       let on : walk ns n s end 0 (length (g .trees)) rest ≡ Ok tt = ap (λ v. walk ns n s end 0 v rest) (g .count) ∙ sym (turn ns n s end (length ts) (y .0) at (x .0) (b ∷ bs) refl (omega arith) w (x .1) (y .1)) ∙ e in

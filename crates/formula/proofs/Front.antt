@@ -10,21 +10,25 @@ use lib.ListN.{length, drop, getD, length-drop}
 use Rattle.std.proofs.shelf.Tests.{ltb-false, leb-false, eqb-false, false≢true}
 use Rattle.std.specs.declared.result.Result.{Result}
 use Rattle.std.specs.declared.result.Result.the-variants.{Ok, Err}
-use Rattle.formula.specs.declared.faults.Fault.{Fault}
-use Rattle.formula.specs.declared.faults.Fault.the-variants.{UnknownMark, Barred, CutShort, Undeclared, OutOfRange, Waiting}
-use Rattle.formula.specs.declared.instructions.Compare.{Compare}
-use Rattle.formula.specs.declared.instructions.Compare.the-variants.{Less, AtMost, Exactly, AtLeast, More}
-use Rattle.formula.specs.declared.sections.Section.{Section}
-use Rattle.formula.specs.declared.instructions.Instruction.{Instruction}
-use Rattle.formula.specs.declared.instructions.Instruction.the-variants.{Is, Becomes, Stays, Clock, Always, Not, And, Or}
+use Rattle.instruction.specs.declared.faults.Fault.{Fault}
+use Rattle.instruction.specs.declared.faults.Fault.the-variants.{UnknownMark, Barred, CutShort, Undeclared, OutOfRange, Waiting}
+use Rattle.instruction.specs.declared.instructions.Compare.{Compare}
+use Rattle.instruction.specs.declared.instructions.Compare.the-variants.{Less, AtMost, Exactly, AtLeast, More}
+use Rattle.instruction.specs.declared.sections.Section.{Section}
+use Rattle.instruction.specs.declared.instructions.Instruction.{Instruction}
+use Rattle.instruction.specs.declared.instructions.Instruction.the-variants.{Is, Becomes, Stays, Clock, Always, Not, And, Or}
 use Rattle.formula.specs.Formulas.{Formula}
-use Rattle.formula.specs.Reader.{instruction, width, waits, oneMore, walk, andThen}
-use Rattle.formula.specs.Rules.{among, leafMarks, Known, Permitted, Whole, Declared, InRange, Room, Breaks, crowded, Stops, leftOver, breaks, Refused, spell, Held}
+use Rattle.instruction.specs.Reader.{instruction, width, waits, oneMore, andThen}
+use Rattle.formula.specs.Reader.{walk}
+use Rattle.instruction.specs.Rules.{among, leafMarks, Known, Permitted, Whole, Declared, InRange, Room, Breaks, crowded}
+use Rattle.formula.specs.Rules.{Stops, leftOver, breaks, Refused, spell, Held}
 use Rattle.formula.proofs.Walks.{turn}
-use Rattle.formula.proofs.Inverse.{spelled, Fit, reads}
-use Rattle.formula.proofs.Back.{grown, wide}
-use Rattle.formula.specs.Faults.{refusal}
-use Rattle.formula.proofs.Broken.{broken, andThen-err, untested, no-test}
+use Rattle.instruction.proofs.Inverse.{reads}
+use Rattle.instruction.specs.Promise.{spelled, Fit}
+use Rattle.instruction.proofs.Told.{wide}
+use Rattle.formula.proofs.Back.{grown}
+use Rattle.instruction.specs.Faults.{refusal}
+use Rattle.instruction.proofs.Broken.{broken, andThen-err, untested, no-test}
 
 module _ (ns : List ℕ) (n : ℕ) (s : Section) where
   module _ (at w : ℕ) (x : Fault) where
@@ -78,7 +82,7 @@ module _ (ns : List ℕ) (n : ℕ) (s : Section) where
       ⊎-elim
       (λ f. record { trees = ts; held = h; rest = b ∷ bs; bytes = refl; stop = breaks b bs (refusal x) (subst (At at (length ts) x) (sym (r .bytes)) (no-room at (length ts) x (y .0) (drop (width (y .0)) (b ∷ bs)) (r .fit) f)) })
       (λ z. let g = grown ns n s (y .0) ts at (z .0) (r .fit) h (z .1) in
-      let w = wide (y .0) in
+      let w = wide (y .0) .0 in
       let rest : List ℕ = drop (width (y .0)) (b ∷ bs) in
       let shorter : length rest ≤ fuel = simp length-drop (omega arith) in
       let on : walk ns n s end 0 (length (g .trees)) rest ≡ Err x = ap (λ v. walk ns n s end 0 v rest) (g .count) ∙ sym (turn ns n s end (length ts) (z .0) at (y .0) (b ∷ bs) refl (omega arith) w (y .1) (z .1)) ∙ e in

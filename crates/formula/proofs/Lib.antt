@@ -1,10 +1,7 @@
 pub mod Walks
 pub mod Through
-pub mod Inverse
 pub mod Back
-pub mod Broken
 pub mod Front
 pub mod Unique
-pub mod Ranged
 pub mod Scanned
 pub mod Told

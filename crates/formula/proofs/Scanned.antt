@@ -1,5 +1,5 @@
 -- One turn of the scan for a clock's constants, and what it makes of a formula.
-use mathlib.Core.Path.{_≡_, refl, sym, ap, _∙_}
+use mathlib.Core.Path.{_≡_, refl, sym, ap, _∙_, subst}
 use mathlib.Core.Bool.{Bool, true, false, cond}
 use mathlib.Core.List.{List, [], _∷_, _++_, append-assoc, append-nil}
 use Prim.Native.Nat.{ℕ, _+_, _-_, _≤_, _<_, max}
@@ -9,14 +9,14 @@ use lib.ListN.{length, drop, getD}
 use Rattle.std.proofs.shelf.Tests.{lt-ltb, le-leb}
 use Rattle.std.specs.declared.result.Result.{Result}
 use Rattle.std.specs.declared.result.Result.the-variants.{Ok, Err}
-use Rattle.formula.specs.declared.faults.Fault.{Fault}
-use Rattle.formula.specs.declared.instructions.Compare.{Compare}
-use Rattle.formula.specs.declared.instructions.Compare.the-variants.{Less, AtMost, Exactly, AtLeast, More}
-use Rattle.formula.specs.declared.instructions.Instruction.{Instruction}
-use Rattle.formula.specs.declared.sections.Section.{Section}
-use Rattle.formula.specs.declared.sections.Section.the-variants.{Transition}
+use Rattle.instruction.specs.declared.faults.Fault.{Fault}
+use Rattle.instruction.specs.declared.instructions.Compare.{Compare}
+use Rattle.instruction.specs.declared.instructions.Compare.the-variants.{Less, AtMost, Exactly, AtLeast, More}
+use Rattle.instruction.specs.declared.instructions.Instruction.{Instruction}
+use Rattle.instruction.specs.declared.sections.Section.{Section}
+use Rattle.instruction.specs.declared.sections.Section.the-variants.{Transition}
 use Rattle.formula.specs.Formulas.{Formula, is, becomes, stays, clock, always, not, and, or, written, Allowed, Writes}
-use Rattle.formula.specs.Reader.{instruction, width}
+use Rattle.instruction.specs.Reader.{instruction, width}
 use Rattle.formula.specs.Heights.{height, constantOf, orElse, scanned, Heights}
 
 module _ (ns : List ℕ) (n c : ℕ) where
@@ -26,17 +26,20 @@ module _ (ns : List ℕ) (n c : ℕ) where
   skip (ℕ.suc k) h [] = refl
   skip (ℕ.suc k) h (b ∷ bs) = skip k h bs
 
-  pub turn : (h : ℕ) (op : Instruction) (bs : List ℕ) → 0 < length bs → 1 ≤ width op → instruction ns n Transition 0 bs ≡ Ok op → scanned ns n c 0 h bs ≡ scanned ns n c 0 (max h (constantOf c op)) (drop (width op) bs)
+  pub turn : (h at : ℕ) (op : Instruction) (bs : List ℕ) → at ≡ 0 → 0 < length bs → 1 ≤ width op → instruction ns n Transition at bs ≡ Ok op → scanned ns n c 0 h bs ≡ scanned ns n c 0 (max h (constantOf c op)) (drop (width op) bs)
   unfolding scanned
-  turn h op [] some pos e = absurd (omega arith)
-  turn h op (b ∷ bs) some pos e =
+  turn h at op [] p some pos e = absurd (omega arith)
+  turn h at op (b ∷ bs) p some pos e =
       let back : ℕ.suc (width op - 1) ≡ width op = omega arith in
-      simp e (skip (width op - 1) (max h (constantOf c op)) bs ∙ ap (λ k. scanned ns n c 0 (max h (constantOf c op)) (drop k (b ∷ bs))) back)
+      let i : instruction ns n Transition 0 (b ∷ bs) ≡ Ok op = subst (λ a. instruction ns n Transition a (b ∷ bs) ≡ Ok op) p e in
+      simp i (skip (width op - 1) (max h (constantOf c op)) bs ∙ ap (λ k. scanned ns n c 0 (max h (constantOf c op)) (drop k (b ∷ bs))) back)
 
-  pub no-op : (h : ℕ) (x : Fault) (bs : List ℕ) → 0 < length bs → instruction ns n Transition 0 bs ≡ Err x → scanned ns n c 0 h bs ≡ h
+  pub no-op : (h at : ℕ) (x : Fault) (bs : List ℕ) → at ≡ 0 → 0 < length bs → instruction ns n Transition at bs ≡ Err x → scanned ns n c 0 h bs ≡ h
   unfolding scanned
-  no-op h x [] some e = absurd (omega arith)
-  no-op h x (b ∷ bs) some e = simp e
+  no-op h at x [] p some e = absurd (omega arith)
+  no-op h at x (b ∷ bs) p some e =
+      let i : instruction ns n Transition 0 (b ∷ bs) ≡ Err x = subst (λ a. instruction ns n Transition a (b ∷ bs) ≡ Err x) p e in
+      simp i
 
   pub ended : (h : ℕ) (bs : List ℕ) → length bs ≡ 0 → scanned ns n c 0 h bs ≡ h
   unfolding scanned

@@ -9,13 +9,15 @@ use lib.ListN.{length, drop, getD}
 use Rattle.std.proofs.shelf.Tests.{lt-ltb, le-leb}
 use Rattle.std.specs.declared.result.Result.{Result}
 use Rattle.std.specs.declared.result.Result.the-variants.{Ok, Err}
-use Rattle.formula.specs.declared.faults.Fault.{Fault}
-use Rattle.formula.specs.declared.instructions.Compare.{Compare}
-use Rattle.formula.specs.declared.instructions.Compare.the-variants.{Less, AtMost, Exactly, AtLeast, More}
-use Rattle.formula.specs.declared.sections.Section.{Section}
-use Rattle.formula.specs.declared.instructions.Instruction.{Instruction}
-use Rattle.formula.specs.Formulas.{Formula, is, becomes, stays, clock, always, not, and, or, written, depth, Allowed, Writes, HasNext, HasClocks, nextAllowed, clocksAllowed}
-use Rattle.formula.specs.Reader.{instruction, width, waits, walk, andThen, nextPart, clockPart}
+use Rattle.instruction.specs.declared.faults.Fault.{Fault}
+use Rattle.instruction.specs.declared.instructions.Compare.{Compare}
+use Rattle.instruction.specs.declared.instructions.Compare.the-variants.{Less, AtMost, Exactly, AtLeast, More}
+use Rattle.instruction.specs.declared.sections.Section.{Section}
+use Rattle.instruction.specs.declared.instructions.Instruction.{Instruction}
+use Rattle.formula.specs.Formulas.{Formula, is, becomes, stays, clock, always, not, and, or, written, depth, Allowed, Writes}
+use Rattle.instruction.specs.Marks.{HasNext, HasClocks, nextAllowed, clocksAllowed}
+use Rattle.instruction.specs.Reader.{instruction, width, waits, andThen, nextPart, clockPart}
+use Rattle.formula.specs.Reader.{walk}
 
 next-is : (s : Section) → HasNext s → (at : ℕ) → nextPart s at ≡ Ok tt
 next-is s h at = simp h

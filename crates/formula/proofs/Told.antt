@@ -4,8 +4,8 @@ use mathlib.Core.List.{List}
 use Prim.Native.Nat.{ℕ}
 use Rattle.std.specs.declared.result.Result.{Result}
 use Rattle.std.specs.declared.result.Result.the-variants.{Ok}
-use Rattle.formula.specs.declared.faults.Fault.{Fault}
-use Rattle.formula.specs.declared.sections.Section.{Section}
+use Rattle.instruction.specs.declared.faults.Fault.{Fault}
+use Rattle.instruction.specs.declared.sections.Section.{Section}
 use Rattle.formula.specs.Reader.{walk, Accepts}
 use Rattle.formula.proofs.Through.{accepted}
 use Rattle.formula.proofs.Back.{was-written}

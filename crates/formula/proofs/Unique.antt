@@ -6,15 +6,15 @@ use lib.ListN.{length, getD}
 use Rattle.std.proofs.shelf.Tests.{lt-ltb, le-leb}
 use Rattle.std.specs.declared.result.Result.{Result}
 use Rattle.std.specs.declared.result.Result.the-variants.{Ok, Err}
-use Rattle.formula.specs.declared.faults.Fault.{Fault}
-use Rattle.formula.specs.declared.instructions.Compare.{Compare}
-use Rattle.formula.specs.declared.instructions.Compare.the-variants.{Less, AtMost, Exactly, AtLeast, More}
-use Rattle.formula.specs.declared.sections.Section.{Section}
-use Rattle.formula.specs.declared.sections.Section.the-variants.{Transition}
-use Rattle.formula.specs.declared.instructions.Instruction.{Instruction}
-use Rattle.formula.specs.declared.instructions.Instruction.the-variants.{Is, Becomes, Stays, Clock, Always, Not, And, Or}
+use Rattle.instruction.specs.declared.faults.Fault.{Fault}
+use Rattle.instruction.specs.declared.instructions.Compare.{Compare}
+use Rattle.instruction.specs.declared.instructions.Compare.the-variants.{Less, AtMost, Exactly, AtLeast, More}
+use Rattle.instruction.specs.declared.sections.Section.{Section}
+use Rattle.instruction.specs.declared.sections.Section.the-variants.{Transition}
+use Rattle.instruction.specs.declared.instructions.Instruction.{Instruction}
+use Rattle.instruction.specs.declared.instructions.Instruction.the-variants.{Is, Becomes, Stays, Clock, Always, Not, And, Or}
 use Rattle.formula.specs.Formulas.{Formula, is, becomes, stays, clock, always, not, and, or, written, Allowed, Writes}
-use Rattle.formula.specs.Reader.{instruction, width}
+use Rattle.instruction.specs.Reader.{instruction, width}
 
 abbrev grow : Instruction → List Formula → List Formula
 grow (Is i k) ts = is i k ∷ ts

@@ -9,11 +9,12 @@ use lib.ListN.{length, drop}
 use Rattle.std.proofs.shelf.Tests.{eq-eqb, ne-eqb}
 use Rattle.std.specs.declared.result.Result.{Result}
 use Rattle.std.specs.declared.result.Result.the-variants.{Ok, Err}
-use Rattle.formula.specs.declared.faults.Fault.{Fault}
-use Rattle.formula.specs.declared.faults.Fault.the-variants.{UnknownMark, Barred, CutShort, Undeclared, OutOfRange, Waiting}
-use Rattle.formula.specs.declared.sections.Section.{Section}
-use Rattle.formula.specs.declared.instructions.Instruction.{Instruction}
-use Rattle.formula.specs.Reader.{instruction, width, waits, walk, andThen}
+use Rattle.instruction.specs.declared.faults.Fault.{Fault}
+use Rattle.instruction.specs.declared.faults.Fault.the-variants.{UnknownMark, Barred, CutShort, Undeclared, OutOfRange, Waiting}
+use Rattle.instruction.specs.declared.sections.Section.{Section}
+use Rattle.instruction.specs.declared.instructions.Instruction.{Instruction}
+use Rattle.instruction.specs.Reader.{instruction, width, waits, andThen}
+use Rattle.formula.specs.Reader.{walk}
 
 module _ (ns : List ℕ) (n : ℕ) (s : Section) (end : ℕ) where
   pub skip : (k w : ℕ) (bs : List ℕ) → walk ns n s end k w bs ≡ walk ns n s end 0 w (drop k bs)

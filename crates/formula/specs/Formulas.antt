@@ -1,13 +1,11 @@
 -- Formulas: their trees, their bytes, and what may stand in which section.
 use mathlib.Core.Path.{_≡_}
-use mathlib.Core.Bool.{Bool, true, false}
 use mathlib.Core.List.{List, [], _∷_, _++_}
 use Prim.Native.Nat.{ℕ, _+_, _≤_, _<_, max}
 use lib.ListN.{length, getD}
-use Rattle.formula.specs.declared.instructions.Compare.{Compare}
-use Rattle.formula.specs.declared.instructions.Compare.the-variants.{Less, AtMost, Exactly, AtLeast, More}
-use Rattle.formula.specs.declared.sections.Section.{Section}
-use Rattle.formula.specs.declared.sections.Section.the-variants.{Variables, Clocks, Start, Invariant, Transition, Urgent, Question}
+use Rattle.instruction.specs.declared.instructions.Compare.{Compare}
+use Rattle.instruction.specs.declared.sections.Section.{Section}
+use Rattle.instruction.specs.Marks.{mark, HasNext, HasClocks}
 
 -- `is i k`: variable i is k; `becomes i k`: its next value is k; `stays i`: its next value is its
 -- present one; `clock o c j`: clock c compares so with j
@@ -19,14 +17,6 @@ pub data Formula : Type 0 where
   always : Formula
   not : Formula → Formula
   and or : Formula → Formula → Formula
-
--- the marks <, l, =, g, >
-abbrev pub mark : Compare → ℕ
-mark Less = 60
-mark AtMost = 108
-mark Exactly = 61
-mark AtLeast = 103
-mark More = 62
 
 -- operands first; the other marks are v, n, s, t, !, &, |
 unfoldable pub written : Formula → List ℕ
@@ -49,31 +39,6 @@ depth always = 1
 depth (not f) = depth f
 depth (and f g) = max (depth f) (1 + depth g)
 depth (or f g) = max (depth f) (1 + depth g)
-
--- which sections speak of next values, and which of clocks
-abbrev pub nextAllowed : Section → Bool
-nextAllowed Variables = false
-nextAllowed Clocks = true
-nextAllowed Start = false
-nextAllowed Invariant = false
-nextAllowed Transition = true
-nextAllowed Urgent = false
-nextAllowed Question = false
-
-abbrev pub clocksAllowed : Section → Bool
-clocksAllowed Variables = false
-clocksAllowed Clocks = true
-clocksAllowed Start = false
-clocksAllowed Invariant = true
-clocksAllowed Transition = true
-clocksAllowed Urgent = false
-clocksAllowed Question = false
-
-abbrev pub HasNext : Section → Type 0
-HasNext s = nextAllowed s ≡ true
-
-abbrev pub HasClocks : Section → Type 0
-HasClocks s = clocksAllowed s ≡ true
 
 -- the formula may stand in the section; its variables and clocks are declared, its values and
 -- constants in range; ns has the numbers of values, n is the number of clocks

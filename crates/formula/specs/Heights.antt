@@ -6,13 +6,13 @@ use Prim.Native.Nat.{ℕ, _-_, max}
 use lib.Dec.{eqb}
 use Rattle.std.specs.declared.result.Result.{Result}
 use Rattle.std.specs.declared.result.Result.the-variants.{Ok, Err}
-use Rattle.formula.specs.declared.faults.Fault.{Fault}
-use Rattle.formula.specs.declared.instructions.Instruction.{Instruction}
-use Rattle.formula.specs.declared.instructions.Instruction.the-variants.{Is, Becomes, Stays, Clock, Always, Not, And, Or}
-use Rattle.formula.specs.declared.sections.Section.{Section}
-use Rattle.formula.specs.declared.sections.Section.the-variants.{Transition}
+use Rattle.instruction.specs.declared.faults.Fault.{Fault}
+use Rattle.instruction.specs.declared.instructions.Instruction.{Instruction}
+use Rattle.instruction.specs.declared.instructions.Instruction.the-variants.{Is, Becomes, Stays, Clock, Always, Not, And, Or}
+use Rattle.instruction.specs.declared.sections.Section.{Section}
+use Rattle.instruction.specs.declared.sections.Section.the-variants.{Transition}
 use Rattle.formula.specs.Formulas.{Formula, is, becomes, stays, clock, always, not, and, or, Writes}
-use Rattle.formula.specs.Reader.{instruction, width}
+use Rattle.instruction.specs.Reader.{instruction, width}
 
 -- the largest constant that clock c is compared with in a formula, or 0
 unfoldable pub height : ℕ → Formula → ℕ

@@ -1,13 +1,11 @@
 // The bytes of a whole formula, instruction by instruction.
 ghost use mathlib.Core.Path.{_≡_};
-ghost use Rattle.formula.specs.Counts.{valueCounts};
+ghost use Rattle.instruction.specs.Counts.{valueCounts};
 ghost use Rattle.formula.specs.Reader.{Accepts};
-use super::faults::Fault;
-use super::instructions::next_instruction;
-use super::instructions::waiting_after;
-use super::instructions::width_of;
-use super::sections::Section;
-use super::sizes::Sizes;
+use instruction::Fault;
+use instruction::Section;
+use instruction::Sizes;
+use instruction::next_instruction;
 
 // Whether the bytes are a formula of this section; `end` is the position past them.
 pub fn accept(code: &[u8], end: usize, sizes: &Sizes, section: Section) -> Result<(), Fault>
@@ -16,10 +14,10 @@ pub fn accept(code: &[u8], end: usize, sizes: &Sizes, section: Section) -> Resul
     let mut rest = code;
     let mut waiting: u32 = 0;
     'instructions: while !rest.is_empty() {
+        let instruction = next_instruction(rest, end, sizes, section)?;
         let at = end.saturating_sub(rest.len());
-        let instruction = next_instruction(rest, at, sizes, section)?;
-        waiting = waiting_after(instruction, waiting, section, at)?;
-        rest = &rest[width_of(instruction)..];
+        waiting = instruction.waiting_after(waiting, section, at)?;
+        rest = &rest[instruction.width()..];
     }
     if waiting == 1 {
         Ok(())

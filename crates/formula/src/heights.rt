@@ -1,12 +1,11 @@
 // How high the constants go that a clock is compared with.
 ghost use mathlib.Core.Path.{_≡_};
-ghost use Rattle.formula.specs.Counts.{valueCounts};
+ghost use Rattle.instruction.specs.Counts.{valueCounts};
 ghost use Rattle.formula.specs.Heights.{Heights, constantOf};
-use super::instructions::Instruction;
-use super::instructions::next_instruction;
-use super::instructions::width_of;
-use super::sections::Section;
-use super::sizes::Sizes;
+use instruction::Instruction;
+use instruction::Section;
+use instruction::Sizes;
+use instruction::next_instruction;
 
 fn constant_of(instruction: Instruction, clock: u8) -> u16
     ensures { λ r. ⌜ r ≡ constantOf clock instruction ⌝ }
@@ -30,7 +29,7 @@ pub fn highest(code: &[u8], sizes: &Sizes, clock: u8) -> u16
             return height;
         };
         height = height.max(constant_of(instruction, clock));
-        rest = &rest[width_of(instruction)..];
+        rest = &rest[instruction.width()..];
     }
     height
 }

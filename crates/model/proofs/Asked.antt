@@ -10,14 +10,14 @@ use lib.ListN.{length}
 use Rattle.std.proofs.shelf.Tests.{leb-true, leb-false, le-leb, lt-leb, cond-true, cond-false}
 use Rattle.std.specs.declared.result.Result.{Result}
 use Rattle.std.specs.declared.result.Result.the-variants.{Ok, Err}
-use Rattle.formula.specs.declared.faults.Fault.{Fault}
-use Rattle.formula.specs.declared.faults.Fault.the-variants.{TooLong}
-use Rattle.formula.specs.declared.sections.Section.the-variants.{Question}
-use Rattle.formula.specs.Faults.{refusal, told}
+use Rattle.instruction.specs.declared.faults.Fault.{Fault}
+use Rattle.instruction.specs.declared.faults.Fault.the-variants.{TooLong}
+use Rattle.instruction.specs.declared.sections.Section.the-variants.{Question}
+use Rattle.instruction.specs.Faults.{refusal, told}
 use Rattle.formula.specs.Formulas.{Formula, Writes}
 use Rattle.formula.specs.Reader.{walk, Accepts}
 use Rattle.formula.specs.Rules.{Refused}
-use Rattle.formula.proofs.Inverse.{never-ok}
+use Rattle.instruction.proofs.Inverse.{never-ok}
 use Rattle.formula.proofs.Unique.{unique}
 use Rattle.model.specs.Questions.{questioning, Asks}
 

@@ -8,20 +8,22 @@ use lib.ListN.{length, drop, replicate}
 use Rattle.std.proofs.shelf.Lists.{length-append}
 use Rattle.std.specs.declared.result.Result.{Result}
 use Rattle.std.specs.declared.result.Result.the-variants.{Ok, Err}
-use Rattle.formula.specs.declared.faults.Fault.{Fault}
-use Rattle.formula.specs.declared.faults.Fault.the-variants.{Trailing}
-use Rattle.formula.specs.declared.sections.Section.{Section}
-use Rattle.formula.specs.declared.sections.Section.the-variants.{Clocks, Start, Invariant, Transition, Urgent}
-use Rattle.formula.specs.Faults.{told, refusal}
+use Rattle.instruction.specs.declared.faults.Fault.{Fault}
+use Rattle.instruction.specs.declared.faults.Fault.the-variants.{Trailing}
+use Rattle.instruction.specs.declared.sections.Section.{Section}
+use Rattle.instruction.specs.declared.sections.Section.the-variants.{Clocks, Start, Invariant, Transition, Urgent}
+use Rattle.instruction.specs.Faults.{told, refusal}
 use Rattle.formula.specs.Formulas.{Formula, written}
-use Rattle.formula.proofs.Inverse.{andThen-ok, never-ok}
-use Rattle.formula.proofs.Broken.{andThen-err, never}
+use Rattle.instruction.proofs.Inverse.{andThen-ok, never-ok}
+use Rattle.instruction.proofs.Broken.{andThen-err, never, fault-is}
 use Rattle.model.specs.declared.layout.Span.{Span}
-use Rattle.model.specs.Systems.{System, Sound, Records, Fits, Stand, Row, none, more, order, formulas, Countable}
-use Rattle.model.specs.Reading.{Layout, cut, resetting, finish, sections, sizing, reading}
-use Rattle.model.specs.Faults.{Begun, Unread, Broken, badFormula, moreBytes}
+use Rattle.model.specs.Systems.{System, Sound, Records, Fits, Stand, Row, none, more, order, formulas}
+use Rattle.model.specs.Reading.{Layout, cut, resetting, finish, sections, reading}
+use Rattle.model.specs.Faults.{Begun, Unread, Broken, badSizes, badFormula, moreBytes}
 use Rattle.model.proofs.Formulas.{Was, cut-was, cut-refused}
-use Rattle.model.proofs.Sizing.{Sized, sizing-was, sizing-refused, fault-is}
+use Rattle.sizes.specs.Promise.{Sized}
+use Rattle.sizes.specs.Reading.{sizing}
+use Rattle.sizes.proofs.Sizing.{sizing-was, sizing-refused, behind-front}
 
 stand-push : (ns : List ℕ) (n : ℕ) (ss : List Section) (fs : List Formula) (s : Section) (f : Formula) → Stand ns n ss fs → Fits ns n s f → Stand ns n (ss ++ (s ∷ [])) (fs ++ (f ∷ []))
 stand-push ns n [] [] s f h g = (g, tt)
@@ -182,7 +184,7 @@ module _ (bs ns : List ℕ) (n : ℕ) where
 -- sound sizes are a good beginning
 begun : (bs ns : List ℕ) (n : ℕ) → Sized bs ns n → Begun bs ns n [] (drop (2 + length ns) bs)
 begun bs ns n z =
-    record { few = z .few; countable = z .countable; clocks = z .clocks; trees = []; stand = tt; row = []; rows = none; bytes = z .bytes ∙ ap (λ t. length ns ∷ (ns ++ (n ∷ t))) (sym (z .behind)) }
+    record { few = z .few; countable = z .countable; clocks = z .clocks; trees = []; stand = tt; row = []; rows = none; bytes = z .bytes ∙ ap (λ t. length ns ∷ (ns ++ (n ∷ t))) (sym (ap (drop (2 + length ns)) (z .bytes) ∙ behind-front ns (z .rest) n)) }
 
 pub reading-was : (bs : List ℕ) (y : Layout) → reading bs ≡ Ok y → (m : System) × Sound m × Records m bs
 reading-was bs y e =
@@ -192,6 +194,6 @@ reading-was bs y e =
 pub reading-refused : (bs : List ℕ) (x : Fault) → reading bs ≡ Err x → Broken bs (refusal x)
 reading-refused bs x e =
     ⊎-elim
-    (λ f. sizing-refused bs x f)
+    (λ f. badSizes (refusal x) (sizing-refused bs x f))
     (λ z. sections-refused bs (z .0 .0) (z .0 .1) (drop (2 + length (z .0 .0)) bs) x (begun bs (z .0 .0) (z .0 .1) (sizing-was bs (z .0 .0) (z .0 .1) (z .1))) (z .2))
     (andThen-err (sizing bs) _ x e)

@@ -11,15 +11,16 @@ use Rattle.std.proofs.shelf.Lists.{take-at, drop-at, take-append-drop, length-a
 use Rattle.std.proofs.shelf.Tests.{leb-true, leb-false, le-leb}
 use Rattle.std.specs.declared.result.Result.{Result}
 use Rattle.std.specs.declared.result.Result.the-variants.{Ok, Err}
-use Rattle.formula.specs.declared.faults.Fault.{Fault}
-use Rattle.formula.specs.declared.faults.Fault.the-variants.{Ended, TooLong}
-use Rattle.formula.specs.declared.faults.Refusal.{Refusal}
-use Rattle.formula.specs.declared.sections.Section.{Section}
-use Rattle.formula.specs.Faults.{told, refusal}
+use Rattle.instruction.specs.declared.faults.Fault.{Fault}
+use Rattle.instruction.specs.declared.faults.Fault.the-variants.{Ended, TooLong}
+use Rattle.instruction.specs.declared.faults.Refusal.{Refusal}
+use Rattle.instruction.specs.declared.sections.Section.{Section}
+use Rattle.instruction.specs.Faults.{told, refusal}
 use Rattle.formula.specs.Formulas.{Formula, written, Writes}
-use Rattle.formula.specs.Reader.{walk, andThen}
-use Rattle.formula.proofs.Inverse.{tested, andThen-ok, never-ok}
-use Rattle.formula.proofs.Broken.{andThen-err, never}
+use Rattle.instruction.specs.Reader.{andThen}
+use Rattle.formula.specs.Reader.{walk}
+use Rattle.instruction.proofs.Inverse.{tested, andThen-ok, never-ok}
+use Rattle.instruction.proofs.Broken.{andThen-err, never, fault-is}
 use Rattle.formula.proofs.Through.{accepted}
 use Rattle.formula.proofs.Back.{was-written}
 use Rattle.formula.proofs.Front.{was-refused}
@@ -27,7 +28,6 @@ use Rattle.model.specs.declared.layout.Span.{Span}
 use Rattle.model.specs.Systems.{Fits}
 use Rattle.model.specs.Reading.{cut, span}
 use Rattle.model.specs.Faults.{Unread, noCount, tooLong, cutOff, inside}
-use Rattle.model.proofs.Sizing.{fault-is}
 
 -- a formula that was cut off the front
 pub record Was (ns : List ℕ) (n : ℕ) (s : Section) (left rest : List ℕ) : Type 0 where

@@ -6,9 +6,10 @@ use native.Mathlib.Omega.{arith}
 use lib.ListN.{length, drop}
 use Rattle.std.specs.declared.result.Result.{Result}
 use Rattle.std.specs.declared.result.Result.the-variants.{Ok, Err}
-use Rattle.formula.specs.declared.faults.Fault.{Fault}
+use Rattle.instruction.specs.declared.faults.Fault.{Fault}
+use Rattle.sizes.specs.Reading.{sizing}
 use Rattle.model.specs.Systems.{System, Sound, Records}
-use Rattle.model.specs.Reading.{Layout, sizing, sections, reading}
+use Rattle.model.specs.Reading.{Layout, sections, reading}
 use Rattle.model.specs.Promise.{Reads, laid}
 use Rattle.model.proofs.Begins.{reading-was, reading-refused}
 use Rattle.model.proofs.Reaches.{reading-through}

@@ -1,8 +1,6 @@
 pub mod Clips
 pub mod Turns
 pub mod Cutting
-pub mod Counting
-pub mod Sizing
 pub mod Whole
 pub mod Formulas
 pub mod Begins

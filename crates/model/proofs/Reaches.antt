@@ -7,17 +7,18 @@ use lib.ListN.{length, drop, replicate}
 use Rattle.std.proofs.shelf.Lists.{length-append}
 use Rattle.std.specs.declared.result.Result.{Result}
 use Rattle.std.specs.declared.result.Result.the-variants.{Ok, Err}
-use Rattle.formula.specs.declared.faults.Fault.{Fault}
-use Rattle.formula.specs.declared.sections.Section.{Section}
-use Rattle.formula.specs.declared.sections.Section.the-variants.{Clocks, Start, Invariant, Transition, Urgent}
+use Rattle.instruction.specs.declared.faults.Fault.{Fault}
+use Rattle.instruction.specs.declared.sections.Section.{Section}
+use Rattle.instruction.specs.declared.sections.Section.the-variants.{Clocks, Start, Invariant, Transition, Urgent}
 use Rattle.formula.specs.Formulas.{Formula, written}
-use Rattle.formula.specs.Reader.{andThen}
+use Rattle.instruction.specs.Reader.{andThen}
 use Rattle.model.specs.declared.layout.Span.{Span}
 use Rattle.model.specs.Systems.{System, Sound, Records, Fits, Stand, Row, none, more, order, formulas}
-use Rattle.model.specs.Reading.{Layout, span, cut, resetting, finish, sections, sizing, reading}
+use Rattle.model.specs.Reading.{Layout, span, cut, resetting, finish, sections, reading}
 use Rattle.model.specs.Promise.{spans, past, laid}
 use Rattle.model.proofs.Formulas.{cut-through}
-use Rattle.model.proofs.Sizing.{sizing-through, behind-front}
+use Rattle.sizes.specs.Reading.{sizing}
+use Rattle.sizes.proofs.Sizing.{sizing-through, behind-front}
 
 -- the front of a row, and its end, behind some reset formulas
 record Parted (rs fs : List Formula) (row : List ℕ) : Type 0 where

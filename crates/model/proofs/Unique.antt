@@ -4,7 +4,7 @@ use mathlib.Core.List.{List, [], _∷_, _++_}
 use Prim.Native.Nat.{ℕ}
 use lib.ListN.{length, take, drop}
 use Rattle.std.proofs.shelf.Lists.{take-at, drop-at}
-use Rattle.formula.specs.declared.sections.Section.{Section}
+use Rattle.instruction.specs.declared.sections.Section.{Section}
 use Rattle.formula.specs.Formulas.{Formula, written, Writes}
 use Rattle.formula.proofs.Unique as formula
 use Rattle.model.specs.Systems.{System, Sound, Stand, Fits, Row, none, more, Records, formulas, order}

@@ -6,9 +6,9 @@ use native.Mathlib.Omega.{arith}
 use lib.ListN.{length}
 use Rattle.std.specs.declared.result.Result.{Result}
 use Rattle.std.specs.declared.result.Result.the-variants.{Ok, Err}
-use Rattle.formula.specs.declared.faults.Fault.{Fault}
-use Rattle.formula.specs.declared.faults.Fault.the-variants.{Trailing}
-use Rattle.formula.specs.declared.sections.Section.the-variants.{Start, Invariant, Transition, Urgent}
+use Rattle.instruction.specs.declared.faults.Fault.{Fault}
+use Rattle.instruction.specs.declared.faults.Fault.the-variants.{Trailing}
+use Rattle.instruction.specs.declared.sections.Section.the-variants.{Start, Invariant, Transition, Urgent}
 use Rattle.model.specs.declared.layout.Span.{Span}
 use Rattle.model.specs.Reading.{Layout, cut, resetting, finish, sections}
 

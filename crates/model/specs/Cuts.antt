@@ -4,7 +4,7 @@ use Prim.Native.Nat.{ℕ}
 use lib.ListN.{take}
 use Rattle.std.specs.declared.result.Result.{Result}
 use Rattle.std.specs.declared.result.Result.the-variants.{Ok, Err}
-use Rattle.formula.specs.declared.faults.Fault.{Fault}
+use Rattle.instruction.specs.declared.faults.Fault.{Fault}
 use Rattle.model.specs.declared.layout.Span.{Span}
 use Rattle.model.specs.declared.sections.Cut.{Cut}
 use Rattle.model.specs.declared.sections.Resets.{Resets}

@@ -3,14 +3,14 @@ use mathlib.Core.Path.{_≡_}
 use mathlib.Core.List.{List, [], _∷_, _++_}
 use Prim.Native.Nat.{ℕ, _+_, _-_, _*_, _≤_, _<_}
 use lib.ListN.{length}
-use Rattle.formula.specs.declared.faults.Refusal.{Refusal}
-use Rattle.formula.specs.declared.sections.Section.{Section}
-use Rattle.formula.specs.declared.sections.Section.the-variants.{Variables, Clocks, Urgent}
-use Rattle.formula.specs.Faults.{told}
+use Rattle.instruction.specs.declared.faults.Refusal.{Refusal}
+use Rattle.instruction.specs.declared.sections.Section.{Section}
+use Rattle.instruction.specs.declared.sections.Section.the-variants.{Urgent}
+use Rattle.instruction.specs.Faults.{told}
 use Rattle.formula.specs.Formulas.{Formula}
 use Rattle.formula.specs.Rules.{Refused}
-use Rattle.formula.specs.Sizes.{product}
-use Rattle.model.specs.Systems.{System, Sound, Records, Countable, Stand, Row, order}
+use Rattle.sizes.specs.Promise.{Countable, Unsized}
+use Rattle.model.specs.Systems.{System, Sound, Records, Stand, Row, order}
 
 -- what is wrong with the formula that is due at the front of what is left; end is the record's length
 pub data Unread (ns : List ℕ) (n : ℕ) (s : Section) (end : ℕ) (left : List ℕ) : Refusal → Type 0 where
@@ -32,12 +32,6 @@ pub record Begun (bs : List ℕ) (ns : List ℕ) (n : ℕ) (done : List Section)
 
 -- the rule that a record breaks first, with number, section and position
 pub data Broken (bs : List ℕ) : Refusal → Type 0 where
-  noVariables : bs ≡ [] → Broken bs (told 1 Variables 0)
-  manyVariables : (n : ℕ) (rest : List ℕ) → bs ≡ n ∷ rest → 8 < n → Broken bs (told 2 Variables 0)
-  noValueCount : (n : ℕ) (ns : List ℕ) → bs ≡ n ∷ ns → n ≤ 8 → Countable ns → length ns < n → Broken bs (told 1 Variables (length bs))
-  badValueCount : (n : ℕ) (ns : List ℕ) (k : ℕ) (rest : List ℕ) → bs ≡ n ∷ (ns ++ (k ∷ rest)) → n ≤ 8 → Countable ns → length ns < n → ((2 ≤ k) × (k ≤ 16) → ⊥) → Broken bs (told 3 Variables (1 + length ns))
-  manyValuations : (n : ℕ) (ns : List ℕ) (k : ℕ) (rest : List ℕ) → bs ≡ n ∷ (ns ++ (k ∷ rest)) → n ≤ 8 → Countable ns → length ns < n → 2 ≤ k → k ≤ 16 → 1024 < product (ns ++ (k ∷ [])) → Broken bs (told 4 Variables (1 + length ns))
-  noClockCount : (ns : List ℕ) → bs ≡ length ns ∷ ns → length ns ≤ 8 → Countable ns → Broken bs (told 1 Clocks (length bs))
-  manyClocks : (ns : List ℕ) (n : ℕ) (rest : List ℕ) → bs ≡ length ns ∷ (ns ++ (n ∷ rest)) → length ns ≤ 8 → Countable ns → 4 < n → Broken bs (told 5 Clocks (1 + length ns))
+  badSizes : (r : Refusal) → Unsized bs r → Broken bs r
   badFormula : (ns : List ℕ) (n : ℕ) (done : List Section) (s : Section) (later : List Section) (left : List ℕ) (r : Refusal) → Begun bs ns n done left → order n ≡ done ++ (s ∷ later) → Unread ns n s (length bs) left r → Broken bs r
   moreBytes : (m : System) (front : List ℕ) (b : ℕ) (rest : List ℕ) → Sound m → Records m front → bs ≡ front ++ (b ∷ rest) → Broken bs (told 13 Urgent (length front))

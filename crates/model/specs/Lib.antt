@@ -1,6 +1,5 @@
 pub mod Systems
 pub mod Reading
-pub mod Sizing
 pub mod Cuts
 pub mod Faults
 pub mod Promise

@@ -5,8 +5,8 @@ use Prim.Native.Nat.{ℕ, _+_, _≤_}
 use lib.ListN.{length, take, drop}
 use Rattle.std.specs.declared.result.Result.{Result}
 use Rattle.std.specs.declared.result.Result.the-variants.{Ok, Err}
-use Rattle.formula.specs.declared.faults.Fault.{Fault}
-use Rattle.formula.specs.Faults.{refusal}
+use Rattle.instruction.specs.declared.faults.Fault.{Fault}
+use Rattle.instruction.specs.Faults.{refusal}
 use Rattle.formula.specs.Formulas.{Formula, written}
 use Rattle.model.specs.declared.layout.Span.{Span}
 use Rattle.model.specs.Systems.{System, Sound, Records}

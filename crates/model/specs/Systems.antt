@@ -1,13 +1,12 @@
 -- A supervisor table: what it is made of, when it is sound, and how a record writes it.
 use mathlib.Core.Path.{_≡_}
-use mathlib.Core.Bool.{Bool, true}
 use mathlib.Core.List.{List, [], _∷_, _++_}
 use Prim.Native.Nat.{ℕ, _+_, _*_, _≤_, _<_}
 use lib.ListN.{length, replicate}
-use Rattle.formula.specs.declared.sections.Section.{Section}
-use Rattle.formula.specs.declared.sections.Section.the-variants.{Clocks, Start, Invariant, Transition, Urgent}
+use Rattle.instruction.specs.declared.sections.Section.{Section}
+use Rattle.instruction.specs.declared.sections.Section.the-variants.{Clocks, Start, Invariant, Transition, Urgent}
 use Rattle.formula.specs.Formulas.{Formula, written, depth, Allowed}
-use Rattle.formula.specs.Sizes.{product, ranged}
+use Rattle.sizes.specs.Promise.{Countable}
 
 -- a timed transition system: the number of values of each variable, a reset formula for each clock
 pub record System : Type 0 where
@@ -37,11 +36,6 @@ Stand ns n [] [] = Unit {0}
 Stand ns n [] (f ∷ fs) = ⊥
 Stand ns n (s ∷ ss) [] = ⊥
 Stand ns n (s ∷ ss) (f ∷ fs) = Fits ns n s f × Stand ns n ss fs
-
--- numbers of values that may be declared together
-pub record Countable (ns : List ℕ) : Type 0 where
-  pub values : ranged ns ≡ true
-  pub valuations : product ns ≤ 1024
 
 pub record Sound (m : System) : Type 0 where
   pub variables : length (m .counts) ≤ 8

@@ -2,7 +2,7 @@
 //
 // All of it is plain numbers. The record stays with the caller, who lends it
 // again to the calls that look at a formula.
-use formula::Sizes;
+use instruction::Sizes;
 
 // Bytes of a record: the position of the first, and how many they are.
 #[derive(Clone, Copy)]

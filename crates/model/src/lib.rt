@@ -9,7 +9,6 @@ mod parts;
 mod questions;
 mod records;
 mod sections;
-mod variables;
 
 pub use layout::Model;
 pub use layout::Role;

@@ -1,10 +1,10 @@
 // A question: formula bytes without a count, with positions of their own.
-ghost use Rattle.formula.specs.Counts.{valueCounts};
+ghost use Rattle.instruction.specs.Counts.{valueCounts};
 ghost use Rattle.model.specs.Questions.{Asks};
-use formula::Fault;
-use formula::Section;
-use formula::Sizes;
 use formula::accept;
+use instruction::Fault;
+use instruction::Section;
+use instruction::Sizes;
 
 // Whether the bytes are a question to a record of these sizes.
 pub fn read_question(bytes: &[u8], sizes: &Sizes) -> Result<(), Fault>

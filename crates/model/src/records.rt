@@ -3,8 +3,8 @@ ghost use Rattle.model.specs.Reading.{layouts};
 ghost use Rattle.model.specs.Promise.{Reads};
 use super::layout::Model;
 use super::sections::read_sections;
-use super::variables::read_sizes;
-use formula::Fault;
+use instruction::Fault;
+use sizes::read_sizes;
 
 // The model of a record, or the first fault from the left.
 pub fn read(bytes: &[u8]) -> Result<Model, Fault>

@@ -1,15 +1,15 @@
 // Sections 2 to 6: formulas, each behind a count of two bytes.
 ghost use mathlib.Core.List.{[]};
 ghost use mathlib.Core.Path.{_≡_};
-ghost use Rattle.formula.specs.Counts.{valueCounts};
+ghost use Rattle.instruction.specs.Counts.{valueCounts};
 ghost use Rattle.model.specs.Reading.{cut, resetting, sections, layouts};
 ghost use Rattle.model.specs.Cuts.{cuts, gathered};
 use super::layout::Model;
 use super::layout::Span;
-use formula::Fault;
-use formula::Section;
-use formula::Sizes;
 use formula::accept;
+use instruction::Fault;
+use instruction::Section;
+use instruction::Sizes;
 
 // Where a formula lies, and what stands behind it.
 #[derive(Clone, Copy)]

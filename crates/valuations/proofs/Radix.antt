@@ -9,9 +9,9 @@ use lib.Arith.{mod-mul, digits-lt, digits-div}
 use lib.Dec.{ltb}
 use lib.ListN.{length, take}
 use Rattle.std.proofs.shelf.Tests.{and-parts, and-from, ltb-true, lt-ltb}
-use Rattle.formula.specs.Sizes.{product, ranged}
+use Rattle.instruction.specs.Sizes.{product, ranged}
 use Rattle.valuations.specs.Radix.{number, digits, within}
-use Rattle.formula.proofs.Ranged.{ranged-first, ranged-rest, product-positive}
+use Rattle.instruction.proofs.Ranged.{ranged-first, ranged-rest, product-positive}
 
 pub digits-within : (ns : List ℕ) (v : ℕ) (zs : List ℕ) → ranged ns ≡ true → within ns (digits ns v ++ zs) ≡ true
 unfolding within digits

@@ -6,7 +6,7 @@ use Prim.Native.Nat.{ℕ, _-_}
 use native.Mathlib.Omega.{arith}
 use lib.ListN.{length, replicate}
 use Rattle.std.specs.declared.option.Option.the-variants.{Some, None}
-use Rattle.formula.specs.Sizes.{ranged}
+use Rattle.instruction.specs.Sizes.{ranged}
 use Rattle.valuations.specs.Radix.{number, digits, within, Values, Numbers}
 use Rattle.valuations.proofs.Radix.{digits-within, number-digits, number-below, digits-number}
 

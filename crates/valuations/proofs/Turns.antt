@@ -8,9 +8,9 @@ use native.Mathlib.Omega.{arith}
 use lib.ListN.{length, getD, take, drop, set, replicate, length-take}
 use Rattle.std.proofs.shelf.Lists.{drop-all, drop-more, drop-replicate, drop-set, getD-take, length-take-le}
 use Rattle.std.proofs.shelf.Tests.{lt-ltb, le-ltb}
-use Rattle.formula.specs.Sizes.{product, ranged}
+use Rattle.instruction.specs.Sizes.{product, ranged}
 use Rattle.valuations.specs.Radix.{number, digits, within}
-use Rattle.formula.proofs.Ranged.{ranged-first, ranged-rest, ranged-drop, product-positive}
+use Rattle.instruction.proofs.Ranged.{ranged-first, ranged-rest, ranged-drop, product-positive}
 
 -- past the last variable
 module _ (k i : ℕ) (cs : List ℕ) (end : k ≤ i) where

@@ -7,7 +7,7 @@ use lib.Dec.{ltb}
 use lib.ListN.{length, take, replicate}
 use Rattle.std.specs.declared.option.Option.{Option}
 use Rattle.std.specs.declared.option.Option.the-variants.{Some, None}
-use Rattle.formula.specs.Sizes.{product}
+use Rattle.instruction.specs.Sizes.{product}
 
 -- the number of the valuation in which the variables have the values xs; ns has the numbers of values
 unfoldable pub number : List ℕ → List ℕ → ℕ

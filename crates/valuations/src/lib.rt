@@ -4,10 +4,10 @@
 // from 0 up to the product of the numbers of values. Both ways are linear in
 // the number of variables, and each is the other's inverse.
 ghost use mathlib.Core.Path.{_≡_};
-ghost use Rattle.formula.specs.Counts.{valueCounts};
-ghost use Rattle.formula.specs.Sizes.{product};
+ghost use Rattle.instruction.specs.Counts.{valueCounts};
+ghost use Rattle.instruction.specs.Sizes.{product};
 ghost use Rattle.valuations.specs.Radix.{Values, Numbers};
-use formula::Sizes;
+use instruction::Sizes;
 
 // How many valuations there are.
 pub fn valuations(sizes: &Sizes) -> u16

@@ -2,8 +2,8 @@
 use mathlib.Core.Path.{_≡_}
 use Prim.Native.Nat.{_+_, _*_, _≤_}
 use lib.ListN.{drop}
-use Rattle.formula.specs.Counts.{valueCounts}
-use Rattle.formula.specs.Sizes.{product}
+use Rattle.instruction.specs.Counts.{valueCounts}
+use Rattle.instruction.specs.Sizes.{product}
 use Rattle.valuations.specs.Radix.{number, within}
 use Rattle.valuations.proofs.number.Given as given
 

@@ -2,8 +2,8 @@
 use mathlib.Core.Path.{_≡_}
 use Prim.Native.Nat.{_*_}
 use lib.ListN.{drop}
-use Rattle.formula.specs.Counts.{valueCounts}
-use Rattle.formula.specs.Sizes.{product}
+use Rattle.instruction.specs.Counts.{valueCounts}
+use Rattle.instruction.specs.Sizes.{product}
 use Rattle.valuations.proofs.valuations.Given as given
 
 abbrev pub Inv-variables : given.InvT-variables

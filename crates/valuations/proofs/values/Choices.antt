@@ -3,8 +3,8 @@ use mathlib.Core.Path.{_≡_}
 use mathlib.Core.List.{_++_}
 use Prim.Native.Nat.{_-_, _/_, _≤_}
 use lib.ListN.{length, drop, replicate}
-use Rattle.formula.specs.Counts.{valueCounts}
-use Rattle.formula.specs.Sizes.{product}
+use Rattle.instruction.specs.Counts.{valueCounts}
+use Rattle.instruction.specs.Sizes.{product}
 use Rattle.valuations.specs.Radix.{digits}
 use Rattle.valuations.proofs.values.Given as given
 

@@ -1,7 +1,7 @@
 use mathlib.Core.Path.{_≡_}
 use Prim.Native.Nat.{_≤_}
 use lib.ListN.{length}
-use Rattle.formula.specs.Counts.{valueCounts}
+use Rattle.instruction.specs.Counts.{valueCounts}
 use Rattle.formula.specs.Reader.{walk}
 use Rattle.formula.proofs.acceptance.accept.Given as given
 

@@ -5,21 +5,20 @@ use native.Mathlib.Omega.{arith}
 use borrow.Author.Tests.{true-eqb, false-eqb}
 use lib.ListN.{length, length-drop}
 use Rattle.std.proofs.shelf.Lists.{take-rest}
+use Rattle.instruction.specs.Reader.{width}
 use Rattle.formula.proofs.Scanned.{turn, no-op, ended, measured}
 use Rattle.formula.proofs.heights.highest.Needs as need
-
-pub next-instruction-requires : need.next-instruction-requires
-next-instruction-requires c κs = omega arith
 
 pub returns-in-rest : need.returns-in-rest
 returns-in-rest c =
     let some : 0 < length (c .instructions .rest .now) = omega (arith, false-eqb _ 0 (c .instructions-test .ensures tt)) in
-    measured _ _ _ _ _ (sym (no-op _ _ _ (c .instructions .height) _ (c .instructions .rest .now) some (sym (c .in-rest .ensures tt .is))) ∙ c .instructions .inv .1)
+    measured _ _ _ _ _ (sym (no-op _ _ _ (c .instructions .height) _ _ (c .instructions .rest .now) (omega arith) some (sym (c .in-rest .ensures tt .answer))) ∙ c .instructions .inv .1)
 
 pub instructions-again : need.instructions-again
 instructions-again c =
-    let e = turn _ _ _ (c .instructions .height) _ (c .instructions .rest .now) (omega (arith, c .in-Ok .ensures tt .fits)) (c .in-Ok .ensures tt .fits .0) (sym (c .in-Ok .ensures tt .is)) in
-    rw take-rest (simp length-drop (omega arith), simp (c .width-of .ensures, c .max-height .ensures, c .constant-of .ensures) (sym e ∙ c .instructions .inv .1))
+    let wide : (1 ≤ width (c .in-Ok .instruction)) × (width (c .in-Ok .instruction) ≤ length (c .instructions .rest .now)) = c .in-Ok .ensures tt .some _ refl in
+    let e = turn _ _ _ (c .instructions .height) _ _ (c .instructions .rest .now) (omega arith) (omega arith) (wide .0) (sym (c .in-Ok .ensures tt .answer)) in
+    rw take-rest (simp length-drop (omega arith), simp (c .width .ensures, c .max-height .ensures, c .constant-of .ensures) (sym e ∙ c .instructions .inv .1))
 
 pub returns : need.returns
 returns c =

@@ -1,7 +1,7 @@
 use mathlib.Core.Path.{_≡_}
 use Prim.Native.Nat.{_≤_}
 use lib.ListN.{length}
-use Rattle.formula.specs.Counts.{valueCounts}
+use Rattle.instruction.specs.Counts.{valueCounts}
 use Rattle.formula.specs.Heights.{scanned}
 use Rattle.formula.proofs.heights.highest.Given as given
 

@@ -7,7 +7,7 @@ use lib.ListN.{length, take}
 use Rattle.std.proofs.shelf.Results.{err-from-errBy}
 use Rattle.std.proofs.shelf.Lists.{length-set}
 use Rattle.std.specs.declared.result.Result.the-variants.{Ok}
-use Rattle.formula.specs.Counts.{valueCounts}
+use Rattle.instruction.specs.Counts.{valueCounts}
 use Rattle.model.specs.Cuts.{gathered}
 use Rattle.model.proofs.Turns.{reset-again, reset-refused, reset-done}
 use Rattle.model.proofs.sections.read_resets.Needs as need

@@ -2,7 +2,7 @@ use mathlib.Core.Path.{_≡_}
 use mathlib.Core.List.{[]}
 use Prim.Native.Nat.{_-_, _≤_}
 use lib.ListN.{length, take}
-use Rattle.formula.specs.Counts.{valueCounts}
+use Rattle.instruction.specs.Counts.{valueCounts}
 use Rattle.model.specs.Reading.{resetting}
 use Rattle.model.proofs.sections.read_resets.Given as given
 

@@ -5,7 +5,7 @@ use native.Mathlib.Omega.{arith}
 use borrow.Author.Tests.{true-eqb, false-eqb}
 use lib.ListN.{length}
 use Rattle.std.specs.declared.result.Result.the-variants.{Err}
-use Rattle.formula.specs.declared.faults.Fault.the-variants.{Trailing}
+use Rattle.instruction.specs.declared.faults.Fault.the-variants.{Trailing}
 use Rattle.model.proofs.Whole.{sections-are, finish-done, finish-more}
 use Rattle.model.proofs.sections.read_sections.Needs as need
 

@@ -1,0 +1,4 @@
+pub mod Inverse
+pub mod Broken
+pub mod Ranged
+pub mod Told
