@@ -1,6 +1,6 @@
 // Records and questions made of parts, and what their readers say of them.
-use formula::Fault;
-use formula::Refusal;
+use instruction::Fault;
+use instruction::Refusal;
 use model::read;
 use model::read_question;
 use std::alloc::AllocError;

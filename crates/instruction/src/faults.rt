@@ -46,26 +46,12 @@ pub struct Refusal {
     pub position: usize,
 }
 
-fn section_number(section: Section) -> u8
-    ensures { λ r. ⌜ r ≡ sectionNumber section ⌝ }
-{
-    match section {
-        Section::Variables => 1,
-        Section::Clocks => 2,
-        Section::Start => 3,
-        Section::Invariant => 4,
-        Section::Transition => 5,
-        Section::Urgent => 6,
-        Section::Question => 7,
-    }
-}
-
 fn told(number: u8, section: Section, position: usize) -> Refusal
     ensures { λ r. ⌜ r ≡ record { number = number; section = sectionNumber section; position = position } ⌝ }
 {
     Refusal {
         number,
-        section: section_number(section),
+        section: section.number(),
         position,
     }
 }

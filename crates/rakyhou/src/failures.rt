@@ -2,8 +2,8 @@
 //
 // A refused record is an answer, so it goes to standard output. Everything else
 // is said on standard error, in one line: what was wrong, and what was expected.
-use formula::Fault;
-use formula::Refusal;
+use instruction::Fault;
+use instruction::Refusal;
 use std::fmt;
 use std::io;
 

@@ -1,5 +1,6 @@
 // The lines of an answer, one fact to a line.
-use formula::Sizes;
+use instruction::Section;
+use instruction::Sizes;
 use model::Model;
 use model::Role;
 use std::io;
@@ -14,13 +15,13 @@ fn print_sizes(rt: &impl Print, sizes: &Sizes) -> io::Result<()> {
     println!(rt, "valuations {}", valuations(sizes))
 }
 
-fn section_of(role: Role) -> u8 {
+fn section_of(role: Role) -> Section {
     match role {
-        Role::Reset(_) => 2,
-        Role::Start => 3,
-        Role::Invariant => 4,
-        Role::Transition => 5,
-        Role::Urgent => 6,
+        Role::Reset(_) => Section::Clocks,
+        Role::Start => Section::Start,
+        Role::Invariant => Section::Invariant,
+        Role::Transition => Section::Transition,
+        Role::Urgent => Section::Urgent,
     }
 }
 
@@ -29,7 +30,7 @@ fn print_formula(rt: &impl Print, model: &Model, bytes: &[u8], role: Role) -> io
     let Some(part) = model.formula(bytes, role) else {
         return Ok(());
     };
-    let section = section_of(role);
+    let section = section_of(role).number();
     println!(
         rt,
         "section {section} position {} length {}",
