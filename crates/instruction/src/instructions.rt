@@ -15,6 +15,12 @@ use super::faults::Fault;
 use super::sections::Section;
 use super::sizes::Sizes;
 
+// The largest constant that a clock may be compared with.
+const LARGEST_CONSTANT: u8 = 250;
+
+// How many values may wait at a time.
+const MOST_WAITING: u32 = 32;
+
 // How a clock is compared with a constant.
 #[derive(Clone, Copy)]
 pub enum Compare {
@@ -100,7 +106,7 @@ fn clock_at(rest: &[u8], at: usize, clocks: u8, section: Section) -> Result<(u8,
     if *c >= clocks {
         return Err(Fault::Undeclared(section, at + 1));
     }
-    if *j > 250 {
+    if *j > LARGEST_CONSTANT {
         return Err(Fault::OutOfRange(section, at + 2));
     }
     Ok((*c, *j))
@@ -245,7 +251,7 @@ impl Instruction {
                 }
             }
             _ => {
-                if waiting < 32 {
+                if waiting < MOST_WAITING {
                     Ok(waiting + 1)
                 } else {
                     Err(Fault::Waiting(section, at))

@@ -11,6 +11,9 @@ use instruction::Fault;
 use instruction::Section;
 use instruction::Sizes;
 
+// How many bytes a formula may have.
+pub(super) const LONGEST_FORMULA: usize = 2000;
+
 // Where a formula lies, and what stands behind it.
 #[derive(Clone, Copy)]
 pub(super) struct Cut<'a> {
@@ -38,7 +41,7 @@ fn cut_formula<'a>(
         return Err(Fault::Ended(section, end));
     };
     let len = *high as usize * 256 + *low as usize;
-    if len > 2000 {
+    if len > LONGEST_FORMULA {
         return Err(Fault::TooLong(section, end.saturating_sub(left.len())));
     }
     let body = &left[2..];

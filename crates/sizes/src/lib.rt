@@ -15,6 +15,16 @@ use instruction::Fault;
 use instruction::Section;
 use instruction::Sizes;
 
+const MOST_VARIABLES: u8 = 8;
+
+const FEWEST_VALUES: u8 = 2;
+
+const MOST_VALUES: u8 = 16;
+
+const MOST_VALUATIONS: u16 = 1024;
+
+const MOST_CLOCKS: u8 = 4;
+
 #[derive(Clone, Copy)]
 struct Counts {
     counts: [u8; 8],
@@ -26,11 +36,11 @@ fn product_with(product: u16, values: u8, at: usize) -> Result<u16, Fault>
     requires { ⌜ product ≤ 1024 ⌝ }
     ensures { λ r. ⌜ r ≡ counted at product values ⌝ }
 {
-    if values < 2 || values > 16 {
+    if values < FEWEST_VALUES || values > MOST_VALUES {
         return Err(Fault::ValueCount(at));
     }
     let product = product * values as u16;
-    if product > 1024 {
+    if product > MOST_VALUATIONS {
         return Err(Fault::Product(at));
     }
     Ok(product)
@@ -45,7 +55,7 @@ fn read_counts(bytes: &[u8]) -> Result<Counts, Fault>
         return Err(Fault::Ended(Section::Variables, 0));
     };
     let variables = *variables;
-    if variables > 8 {
+    if variables > MOST_VARIABLES {
         return Err(Fault::TooManyVariables);
     }
     let mut counts = [0u8; 8];
@@ -70,7 +80,7 @@ fn read_clock_count(left: &[u8], end: usize) -> Result<u8, Fault>
     let [clocks, ..] = left else {
         return Err(Fault::Ended(Section::Clocks, end));
     };
-    if *clocks > 4 {
+    if *clocks > MOST_CLOCKS {
         return Err(Fault::TooManyClocks(end.saturating_sub(left.len())));
     }
     Ok(*clocks)

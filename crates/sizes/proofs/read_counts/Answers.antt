@@ -20,7 +20,7 @@ variables-holds c =
 pub returns-in-rest-rest : need.returns-in-rest-rest
 returns-in-rest-rest c =
     let bs : List ℕ = c .args .bytes .now in
-    let e = variables-are bs (search needs) (c .if-variables-gt8 .left) ∙ sym (c .variables .inv .3)
+    let e = variables-are bs (search needs) (c .if-variables-gt-MOST-VARIABLES .left) ∙ sym (c .variables .inv .3)
     ∙ count-missing (length bs) (getD bs 0 0 - c .variables .i) (c .variables .product) _ (c .variables .rest .now) (omega (arith, c .variables-test .taken)) (search needs) in
     record { fits = tt; is = sym e }
 
@@ -28,7 +28,7 @@ pub returns-in-Break-product : need.returns-in-Break-product
 returns-in-Break-product c =
     let bs : List ℕ = c .args .bytes .now in
     let p = err-from-errBy (c .from-residual .result) (c .from-residual .ensures .1) in
-    let e = variables-are bs (search needs) (c .if-variables-gt8 .left) ∙ sym (c .variables .inv .3)
+    let e = variables-are bs (search needs) (c .if-variables-gt-MOST-VARIABLES .left) ∙ sym (c .variables .inv .3)
     ∙ count-refused (length bs) _ (c .variables .product) _ _ _ _ (c .variables .rest .now) (omega (arith, c .variables-test .taken)) (search needs) refl refl (sym (c .in-Break-product .ensures tt)) in
     rw (p .1, p .2) (record { fits = tt; is = sym e })
 
@@ -44,7 +44,7 @@ returns c =
     let bs : List ℕ = c .args .bytes .now in
     let all : getD bs 0 0 ≡ c .variables .i = omega (arith, c .variables-test .left) in
     let none : getD bs 0 0 - c .variables .i ≡ 0 = omega (arith, c .variables-test .left) in
-    let e = variables-are bs (search needs) (c .if-variables-gt8 .left) ∙ sym (c .variables .inv .3)
+    let e = variables-are bs (search needs) (c .if-variables-gt-MOST-VARIABLES .left) ∙ sym (c .variables .inv .3)
     ∙ count-done (length bs) (getD bs 0 0 - c .variables .i) (c .variables .product) (take (c .variables .i) (c .variables .counts)) (c .variables .rest .now) none
     ∙ ap (λ k. Ok (take k (c .variables .counts))) (sym all) in
-    record { fits = (c .if-variables-gt8 .left, omega (arith, c .variables .inv .2)); is = sym e }
+    record { fits = (c .if-variables-gt-MOST-VARIABLES .left, omega (arith, c .variables .inv .2)); is = sym e }
