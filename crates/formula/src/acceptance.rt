@@ -2,6 +2,8 @@
 ghost use mathlib.Core.Path.{_≡_};
 ghost use Rattle.instruction.specs.Counts.{valueCounts};
 ghost use Rattle.formula.specs.Reader.{Accepts};
+use super::stepping::waiting_after;
+use super::stepping::width_of;
 use instruction::Fault;
 use instruction::Section;
 use instruction::Sizes;
@@ -16,8 +18,8 @@ pub fn accept(code: &[u8], end: usize, sizes: &Sizes, section: Section) -> Resul
     'instructions: while !rest.is_empty() {
         let instruction = next_instruction(rest, end, sizes, section)?;
         let at = end.saturating_sub(rest.len());
-        waiting = instruction.waiting_after(waiting, section, at)?;
-        rest = &rest[instruction.width()..];
+        waiting = waiting_after(instruction, waiting, section, at)?;
+        rest = &rest[width_of(instruction)..];
     }
     if waiting == 1 {
         Ok(())

@@ -2,6 +2,7 @@
 ghost use mathlib.Core.Path.{_≡_};
 ghost use Rattle.instruction.specs.Counts.{valueCounts};
 ghost use Rattle.formula.specs.Heights.{Heights, constantOf};
+use super::stepping::width_of;
 use instruction::Instruction;
 use instruction::Section;
 use instruction::Sizes;
@@ -29,7 +30,7 @@ pub fn highest(code: &[u8], sizes: &Sizes, clock: u8) -> u16
             return height;
         };
         height = height.max(constant_of(instruction, clock));
-        rest = &rest[instruction.width()..];
+        rest = &rest[width_of(instruction)..];
     }
     height
 }

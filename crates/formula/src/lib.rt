@@ -5,6 +5,7 @@
 // Nothing is copied and nothing is allocated.
 mod acceptance;
 mod heights;
+mod stepping;
 
 pub use acceptance::accept;
 pub use heights::highest;

@@ -10,16 +10,13 @@ ghost use lib.Dec.{ltb};
 ghost use lib.ListN.{length, getD};
 ghost use Rattle.instruction.specs.Counts.{valueCounts};
 ghost use Rattle.instruction.specs.Promise.{Instructs};
-ghost use Rattle.instruction.specs.Reader.{pair, single, clocked, comparison, isPart, becomesPart, staysPart, marked, width, nextPart, clockPart, waits};
+ghost use Rattle.instruction.specs.Reader.{pair, single, clocked, comparison, isPart, becomesPart, staysPart, marked, nextPart, clockPart};
 use super::faults::Fault;
 use super::sections::Section;
 use super::sizes::Sizes;
 
 // The largest constant that a clock may be compared with.
 const LARGEST_CONSTANT: u8 = 250;
-
-// How many values may wait at a time.
-const MOST_WAITING: u32 = 32;
 
 // How a clock is compared with a constant.
 #[derive(Clone, Copy)]
@@ -217,46 +214,4 @@ pub fn next_instruction(
         return Err(Fault::CutShort(section, at));
     };
     marked_at(*mark as char, rest, at, sizes, section)
-}
-
-impl Instruction {
-    // How many bytes it takes.
-    pub fn width(self) -> usize
-        ensures { λ r. ⌜ r ≡ width self ⌝ }
-    {
-        match self {
-            Instruction::Is(_, _) | Instruction::Becomes(_, _) | Instruction::Clock(_, _, _) => 3,
-            Instruction::Stays(_) => 2,
-            Instruction::Always | Instruction::Not | Instruction::And | Instruction::Or => 1,
-        }
-    }
-
-    // How many values wait after it, if `waiting` did before it; `at` is the position of its mark.
-    pub fn waiting_after(self, waiting: u32, section: Section, at: usize) -> Result<u32, Fault>
-        ensures { λ r. ⌜ r ≡ waits self section at waiting ⌝ }
-    {
-        match self {
-            Instruction::Not => {
-                if waiting >= 1 {
-                    Ok(waiting)
-                } else {
-                    Err(Fault::Waiting(section, at))
-                }
-            }
-            Instruction::And | Instruction::Or => {
-                if waiting >= 2 {
-                    Ok(waiting - 1)
-                } else {
-                    Err(Fault::Waiting(section, at))
-                }
-            }
-            _ => {
-                if waiting < MOST_WAITING {
-                    Ok(waiting + 1)
-                } else {
-                    Err(Fault::Waiting(section, at))
-                }
-            }
-        }
-    }
 }

@@ -28,7 +28,7 @@ pub instructions-again : need.instructions-again
 instructions-again c =
     let some : 0 < length (c .instructions .rest .now) = omega (arith, false-eqb _ 0 (c .instructions-test .ensures tt)) in
     let e = turn _ _ _ _ (c .instructions .waiting) _ _ _ (c .instructions .rest .now) refl some (c .in-Continue-instruction .ensures tt .some _ refl .0) (sym (c .in-Continue-instruction .ensures tt .answer)) (sym (c .in-Continue-waiting .ensures tt ∙ ap (λ a. waits (c .in-Continue-instruction .instruction) (c .args .section) a (c .instructions .waiting)) (c .saturating-sub-at .ensures))) in
-    rw take-rest (simp length-drop (omega arith), simp (c .width .ensures) (sym e ∙ c .instructions .inv .1))
+    rw take-rest (simp length-drop (omega arith), simp (c .width-of .ensures) (sym e ∙ c .instructions .inv .1))
 
 pub returns-then-waiting-eq1 : need.returns-then-waiting-eq1
 returns-then-waiting-eq1 c =

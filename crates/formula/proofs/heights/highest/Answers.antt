@@ -18,7 +18,7 @@ pub instructions-again : need.instructions-again
 instructions-again c =
     let wide : (1 ≤ width (c .in-Ok .instruction)) × (width (c .in-Ok .instruction) ≤ length (c .instructions .rest .now)) = c .in-Ok .ensures tt .some _ refl in
     let e = turn _ _ _ (c .instructions .height) _ _ (c .instructions .rest .now) (omega arith) (omega arith) (wide .0) (sym (c .in-Ok .ensures tt .answer)) in
-    rw take-rest (simp length-drop (omega arith), simp (c .width .ensures, c .max-height .ensures, c .constant-of .ensures) (sym e ∙ c .instructions .inv .1))
+    rw take-rest (simp length-drop (omega arith), simp (c .width-of .ensures, c .max-height .ensures, c .constant-of .ensures) (sym e ∙ c .instructions .inv .1))
 
 pub returns : need.returns
 returns c =
