@@ -9,3 +9,4 @@ mod stepping;
 
 pub use acceptance::accept;
 pub use heights::highest;
+pub use stepping::width_of;

@@ -9,7 +9,7 @@ use instruction::Section;
 const MOST_WAITING: u32 = 32;
 
 // How many bytes an instruction takes.
-pub(super) fn width_of(instruction: Instruction) -> usize
+pub fn width_of(instruction: Instruction) -> usize
     ensures { λ r. ⌜ r ≡ width instruction ⌝ }
 {
     match instruction {

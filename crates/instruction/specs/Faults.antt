@@ -3,7 +3,7 @@ use Prim.Native.Nat.{ℕ}
 use Rattle.instruction.specs.declared.sections.Section.{Section}
 use Rattle.instruction.specs.declared.sections.Section.the-variants.{Variables, Clocks, Start, Invariant, Transition, Urgent, Question}
 use Rattle.instruction.specs.declared.faults.Fault.{Fault}
-use Rattle.instruction.specs.declared.faults.Fault.the-variants.{Ended, TooManyVariables, ValueCount, Product, TooManyClocks, TooLong, UnknownMark, Barred, CutShort, Undeclared, OutOfRange, Waiting, Trailing}
+use Rattle.instruction.specs.declared.faults.Fault.the-variants.{Ended, TooManyVariables, ValueCount, Product, TooManyClocks, TooLong, UnknownMark, Barred, CutShort, Undeclared, OutOfRange, Waiting, Trailing, RunNumbers}
 use Rattle.instruction.specs.declared.faults.Refusal.{Refusal}
 
 abbrev pub sectionNumber : Section → ℕ
@@ -32,3 +32,4 @@ refusal (Undeclared s p) = told 10 s p
 refusal (OutOfRange s p) = told 11 s p
 refusal (Waiting s p) = told 12 s p
 refusal (Trailing p) = told 13 Urgent p
+refusal (RunNumbers p) = record { number = 18; section = 0; position = p }

@@ -1,4 +1,4 @@
-// What can be wrong with a record or a question.
+// What can be wrong with a record, a question or a run.
 //
 // Every level of the reader answers with this one enum, so a fault found in an
 // instruction reaches the caller as it was found. A case holds the section and
@@ -36,6 +36,8 @@ pub enum Fault {
     Waiting(Section, usize),
     // bytes after the last section
     Trailing(usize),
+    // a run with a number out of range: 0, or the index of its first such step
+    RunNumbers(usize),
 }
 
 // A fault as numbers.
@@ -75,6 +77,11 @@ impl Fault {
             Fault::OutOfRange(section, at) => told(11, section, at),
             Fault::Waiting(section, at) => told(12, section, at),
             Fault::Trailing(at) => told(13, Section::Urgent, at),
+            Fault::RunNumbers(step) => Refusal {
+                number: 18,
+                section: 0,
+                position: step,
+            },
         }
     }
 }

@@ -26,9 +26,13 @@ within [] xs = true
 within (n ∷ ns) [] = false
 within (n ∷ ns) (x ∷ xs) = ltb x n && within ns xs
 
--- the values of a valuation, each variable's at its index, and 0 where there is no variable
+-- the same for eight variables, 0 where there is none
+abbrev pub padded : List ℕ → ℕ → List ℕ
+padded ns v = digits ns v ++ replicate (8 - length ns) 0
+
+-- the values of a valuation, each variable's at its index
 pub record Values (ns : List ℕ) (v : ℕ) (xs : List ℕ) : Type 0 where
-  pub answer : xs ≡ digits ns v ++ replicate (8 - length ns) 0
+  pub answer : xs ≡ padded ns v
   pub inRange : within ns xs ≡ true
   pub back : number ns xs ≡ v % product ns
 

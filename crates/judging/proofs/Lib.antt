@@ -1,0 +1,4 @@
+pub mod Bits
+pub mod Judged
+pub mod Depends
+pub mod Told

@@ -1,0 +1,5 @@
+pub mod Runs
+pub mod Instants
+pub mod Tables
+pub mod Steps
+pub mod Checks
