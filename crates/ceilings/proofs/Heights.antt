@@ -13,12 +13,8 @@ use Rattle.model.specs.Systems.{System, Sound, Stand, Fits, Records}
 use Rattle.model.specs.Reading.{Layout}
 use Rattle.model.specs.Promise.{laid, Holds, HoldAll}
 use Rattle.model.proofs.Lies.{lies}
+use Rattle.model.proofs.Reaches.{stand-parts}
 use Rattle.ceilings.specs.Ceilings.{tallest, ceiling, heightAt, peak, ceilingAt, Ceilings}
-
--- the formulas of the clocks stand apart from those behind them
-apart : (ns : List ℕ) (n : ℕ) (ss : List Section) (fs gs : List Formula) → Stand ns n (replicate (length fs) Clocks ++ ss) (fs ++ gs) → Stand ns n (replicate (length fs) Clocks) fs × Stand ns n ss gs
-apart ns n ss [] gs h = (tt, h)
-apart ns n ss (f ∷ fs) gs h = let x = apart ns n ss fs gs (h .1) in ((h .0, x .0), x .1)
 
 module _ (bs : List ℕ) (y : Layout) (c : ℕ) where
   height-is : (s : Section) (p : Span) (f : Formula) → Fits (y .counts) (y .clocks) s f → Holds bs p f → heightAt bs y c p ≡ height c f
@@ -38,7 +34,7 @@ module _ (bs : List ℕ) (y : Layout) (c : ℕ) where
 ceiling-is : (bs : List ℕ) (y : Layout) (m : System) (c : ℕ) → Sound m → Records m bs → y ≡ laid m → ceilingAt bs y c ≡ ceiling m c
 ceiling-is bs y m c sound r same =
     let n : ℕ = length (m .resets) in
-    let x = apart (m .counts) n (Start ∷ Invariant ∷ Transition ∷ Urgent ∷ []) (m .resets) (m .start ∷ m .invariant ∷ m .transition ∷ m .urgent ∷ []) (sound .stand) in
+    let x = stand-parts (m .counts) n (Start ∷ Invariant ∷ Transition ∷ Urgent ∷ []) (m .resets) (m .start ∷ m .invariant ∷ m .transition ∷ m .urgent ∷ []) (sound .stand) in
     let at = lies bs m sound r in
     rw same (peak-is bs (laid m) c (Invariant ∷ Transition ∷ replicate n Clocks) (laid m .invariant ∷ laid m .transition ∷ laid m .resets) (m .invariant ∷ m .transition ∷ m .resets) (x .1 .1 .0, (x .1 .1 .1 .0, x .0)) (at .invariant, (at .transition, at .resets)))
 

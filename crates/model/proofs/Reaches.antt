@@ -34,7 +34,8 @@ parted (f ∷ rs) fs (more h l g gs bs c r) =
     let p = parted rs fs r in
     record { front = h ∷ l ∷ (written f ++ p .front); back = p .back; first = more h l f rs (p .front) c (p .first); second = p .second; bytes = ap (λ t. h ∷ l ∷ (written f ++ t)) (p .bytes) ∙ ap (λ t. h ∷ l ∷ t) (sym (append-assoc (written f) (p .front) (p .back))) }
 
-stand-parts : (ns : List ℕ) (n : ℕ) (ss : List Section) (rs fs : List Formula) → Stand ns n (replicate (length rs) Clocks ++ ss) (rs ++ fs) → Stand ns n (replicate (length rs) Clocks) rs × Stand ns n ss fs
+-- the formulas of the clocks stand apart from those behind them
+pub stand-parts : (ns : List ℕ) (n : ℕ) (ss : List Section) (rs fs : List Formula) → Stand ns n (replicate (length rs) Clocks ++ ss) (rs ++ fs) → Stand ns n (replicate (length rs) Clocks) rs × Stand ns n ss fs
 stand-parts ns n ss [] fs h = (tt, h)
 stand-parts ns n ss (r ∷ rs) fs h = let p = stand-parts ns n ss rs fs (h .1) in ((h .0, p .0), p .1)
 

@@ -21,16 +21,12 @@ use Rattle.model.specs.Systems.{System, Sound, Stand, Fits, Records}
 use Rattle.model.specs.Reading.{Layout, span, layout}
 use Rattle.model.specs.Promise.{laid, Holds, HoldAll}
 use Rattle.model.proofs.Lies.{lies}
+use Rattle.model.proofs.Reaches.{stand-parts}
 use Rattle.runs.specs.Runs.{Table}
 use Rattle.runs.specs.Tables.{resetOf, tableOf, saysOf, tableIn}
 
 pub asks : (ns : List ℕ) (n : ℕ) (q : List ℕ) (f : Formula) (w : View) → Writes ns n Question q f → judged ns n w 0 0 q ≡ holds w f
 asks ns n q f w h = means ns n w Question q f h
-
--- the formulas of the clocks stand apart from those behind them
-apart : (ns : List ℕ) (n : ℕ) (ss : List Section) (fs gs : List Formula) → Stand ns n (replicate (length fs) Clocks ++ ss) (fs ++ gs) → Stand ns n (replicate (length fs) Clocks) fs × Stand ns n ss gs
-apart ns n ss [] gs h = (tt, h)
-apart ns n ss (f ∷ fs) gs h = let x = apart ns n ss fs gs (h .1) in ((h .0, x .0), x .1)
 
 none-past : (fs : List Formula) (c : ℕ) (v : View) → length fs ≤ c → resetOf fs c v ≡ false
 unfolding resetOf
@@ -85,7 +81,7 @@ module _ (bs : List ℕ) (m : Model) where
 -- the table at a system's layout is the system's
 laid-is : (bs : List ℕ) (k : System) → Sound k → Records k bs → table bs (laid k) ≡ tableOf k
 laid-is bs k sound r =
-    let x = apart (k .counts) (length (k .resets)) (Start ∷ Invariant ∷ Transition ∷ Urgent ∷ []) (k .resets) (k .start ∷ k .invariant ∷ k .transition ∷ k .urgent ∷ []) (sound .stand) in
+    let x = stand-parts (k .counts) (length (k .resets)) (Start ∷ Invariant ∷ Transition ∷ Urgent ∷ []) (k .resets) (k .start ∷ k .invariant ∷ k .transition ∷ k .urgent ∷ []) (sound .stand) in
     let l = lies bs k sound r in
     let a : table bs (laid k) .start ≡ tableOf k .start = fun-ext (λ v. at-is bs (laid k) Start (laid k .start) (k .start) v (x .1 .0) (l .start)) in
     let b : table bs (laid k) .invariant ≡ tableOf k .invariant = fun-ext (λ v. at-is bs (laid k) Invariant (laid k .invariant) (k .invariant) v (x .1 .1 .0) (l .invariant)) in
