@@ -9,23 +9,23 @@ use std::test::*;
 
 // The sections that hold a formula: the resets, start, invariant, transition and urgent, and the
 // question.
-pub const ALL: [u8; 6] = [2, 3, 4, 5, 6, 7];
+pub(super) const ALL: [u8; 6] = [2, 3, 4, 5, 6, 7];
 
 const QUESTION: u8 = 7;
 
 // One variable with two values, one clock, and five formulas that are `t`.
-pub const PLAIN: &[u8; 18] = b"\x01\x02\x01\x00\x01t\x00\x01t\x00\x01t\x00\x01t\x00\x01t";
+pub(super) const PLAIN: &[u8; 18] = b"\x01\x02\x01\x00\x01t\x00\x01t\x00\x01t\x00\x01t\x00\x01t";
 
 // A refusal that can be compared and shown.
 #[derive(Clone, Copy, PartialEq, Debug)]
-pub struct Told {
+pub(super) struct Told {
     pub number: u8,
     pub section: u8,
     pub position: usize,
 }
 
 // A formula and its fault: the number, and the position counted from the formula's first byte.
-pub type Row = (&'static [u8], u8, usize);
+pub(super) type Row = (&'static [u8], u8, usize);
 
 impl Told {
     fn of(fault: Fault) -> Told {
@@ -43,7 +43,7 @@ impl Told {
 }
 
 // What is said of a record: nothing if it is accepted.
-pub fn answer(record: &[u8]) -> Option<Told> {
+pub(super) fn answer(record: &[u8]) -> Option<Told> {
     match read(record) {
         Ok(_) => None,
         Err(fault) => Some(Told::of(fault)),
@@ -51,7 +51,7 @@ pub fn answer(record: &[u8]) -> Option<Told> {
 }
 
 // What is said of a question to a record.
-pub fn answer_to(question: &[u8], record: &[u8]) -> Option<Told> {
+pub(super) fn answer_to(question: &[u8], record: &[u8]) -> Option<Told> {
     match read(record) {
         Ok(model) => match read_question(question, &model.sizes) {
             Ok(()) => None,
@@ -62,14 +62,14 @@ pub fn answer_to(question: &[u8], record: &[u8]) -> Option<Told> {
 }
 
 // Adds a formula behind its count.
-pub fn add_formula(record: &mut Vec<u8>, code: &[u8]) -> Result<(), AllocError> {
+pub(super) fn add_formula(record: &mut Vec<u8>, code: &[u8]) -> Result<(), AllocError> {
     record.push((code.len() / 256 % 256) as u8)?;
     record.push((code.len() % 256) as u8)?;
     record.extend_from_slice(code)
 }
 
 // The record PLAIN with another formula in one section from 2 to 6.
-pub fn plain_with(heap: Global, section: u8, code: &[u8]) -> Result<Vec<u8>, AllocError> {
+pub(super) fn plain_with(heap: Global, section: u8, code: &[u8]) -> Result<Vec<u8>, AllocError> {
     let mut record = Vec::new(heap);
     record.extend_from_slice(b"\x01\x02\x01")?;
     for s in 2..QUESTION {
@@ -80,7 +80,7 @@ pub fn plain_with(heap: Global, section: u8, code: &[u8]) -> Result<Vec<u8>, All
 
 // The position of the first byte of a formula in a section of PLAIN: 3 bytes before the counts,
 // and 3 bytes for each formula before it.
-pub fn first_byte(section: u8) -> usize {
+pub(super) fn first_byte(section: u8) -> usize {
     if section < 2 || section >= QUESTION {
         return 0;
     }
@@ -88,7 +88,7 @@ pub fn first_byte(section: u8) -> usize {
 }
 
 // The answer to a formula in a section of PLAIN, or to a question, is the expected one.
-pub fn check_formula(
+pub(super) fn check_formula(
     heap: Global,
     section: u8,
     code: &[u8],
@@ -103,7 +103,7 @@ pub fn check_formula(
 }
 
 // Every formula is accepted in each of the sections.
-pub fn check_accepted(heap: Global, sections: &[u8], codes: &[&[u8]]) -> Result<(), Fail> {
+pub(super) fn check_accepted(heap: Global, sections: &[u8], codes: &[&[u8]]) -> Result<(), Fail> {
     for section in sections {
         for code in codes {
             check_formula(heap, *section, *code, None)?;
@@ -113,7 +113,7 @@ pub fn check_accepted(heap: Global, sections: &[u8], codes: &[&[u8]]) -> Result<
 }
 
 // Every row is refused so in each of the sections.
-pub fn check_refused(heap: Global, sections: &[u8], rows: &[Row]) -> Result<(), Fail> {
+pub(super) fn check_refused(heap: Global, sections: &[u8], rows: &[Row]) -> Result<(), Fail> {
     for section in sections {
         for row in rows {
             let (code, number, offset) = *row;
