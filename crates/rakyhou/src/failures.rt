@@ -1,13 +1,20 @@
 // Why the program ends without the answer that was asked for.
 //
-// A refused record is an answer, so it goes to standard output. Everything else
+// A refused record or run is an answer, so it goes to standard output. Everything else
 // is said on standard error, in one line: what was wrong, and what was expected.
+use super::walks::Flaw;
 use instruction::Fault;
 use instruction::Refusal;
 use std::fmt;
 use std::io;
 
-const USAGE: &str = "rakyhou read PACK";
+const USAGE: &str = "rakyhou read PACK, or rakyhou run PACK QUESTION RUN";
+
+const QUESTION: &str = "two hex digits to a byte, or - for no byte";
+
+const FIRST_LINE: &str = "a first line START D";
+
+const STEP_LINE: &str = "a line KIND VALUATION DELAY";
 
 #[derive(Drop)]
 pub enum Failure {
@@ -17,8 +24,17 @@ pub enum Failure {
     UnknownCommand(String),
     TooFewWords,
     TooManyWords,
-    // a file, and why it could not be read
-    Unreadable(String, io::Error),
+    // a file, why it could not be read, and what was expected in it
+    Unreadable(String, io::Error, &'static str),
+    // the question's digits
+    NoHexDigit(char),
+    HalfByte,
+    NoDigits,
+    // the run's lines, a step's with its number
+    NoFirstLine,
+    FirstLine(Flaw),
+    StepLine(usize, Flaw),
+    NoMemory,
     // the answer could not be written
     Output(io::Error),
     Refused(Refusal),
@@ -33,6 +49,21 @@ pub impl From<io::Error> for Failure as FailureFromIo {
 pub impl From<Fault> for Failure as FailureFromFault {
     fn from(fault: Fault) -> Failure {
         Failure::Refused(fault.refused())
+    }
+}
+
+impl fmt::Display for Flaw as FlawDisplay {
+    fn fmt<W: fmt::Write>(&self, f: &mut fmt::Formatter<W>) -> fmt::Result {
+        match *self {
+            Flaw::Words(count) => write!(f, "the number of words is {count}"),
+            Flaw::Number(place) => {
+                write!(
+                    f,
+                    "word {place} is not a decimal number from 0 to 4294967295"
+                )
+            }
+            Flaw::Kind => write!(f, "the kind is above 255"),
+        }
     }
 }
 
@@ -51,12 +82,22 @@ pub impl fmt::Display for Failure as FailureDisplay {
             }
             Failure::TooFewWords => write!(f, "too few words; expected: {USAGE}"),
             Failure::TooManyWords => write!(f, "too many words; expected: {USAGE}"),
-            Failure::Unreadable(path, error) => {
-                write!(
-                    f,
-                    "cannot read {path:?}: {error}; expected a file with a model record"
-                )
+            Failure::Unreadable(path, error, what) => {
+                write!(f, "cannot read {path:?}: {error}; expected {what}")
             }
+            Failure::NoHexDigit(c) => {
+                write!(f, "question: {c:?} is no hex digit; expected {QUESTION}")
+            }
+            Failure::HalfByte => {
+                write!(f, "question: an odd number of digits; expected {QUESTION}")
+            }
+            Failure::NoDigits => write!(f, "question: no digit; expected {QUESTION}"),
+            Failure::NoFirstLine => write!(f, "run: no line; expected {FIRST_LINE}"),
+            Failure::FirstLine(flaw) => { write!(f, "run, line 1: {flaw}; expected {FIRST_LINE}") }
+            Failure::StepLine(number, flaw) => {
+                write!(f, "run, line {number}: {flaw}; expected {STEP_LINE}")
+            }
+            Failure::NoMemory => write!(f, "no memory left; expected room for the run"),
             Failure::Output(error) => write!(f, "cannot write the answer: {error}"),
             Failure::Refused(refusal) => {
                 let Refusal {

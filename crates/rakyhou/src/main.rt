@@ -5,6 +5,8 @@
 mod commands;
 mod failures;
 mod lines;
+mod questions;
+mod walks;
 
 use commands::Command;
 use commands::command_of;
@@ -12,16 +14,48 @@ use failures::Failure;
 use failures::FailureFromFault;
 use failures::FailureFromIo;
 use lines::print_model;
+use questions::question_of;
+use runs::check_run;
 use std::env;
 use std::fs;
+use walks::Walk;
+use walks::walk_of;
+
+fn bytes_of(rt: &LibcRuntime, pack: String) -> Result<Vec<u8>, Failure> {
+    match fs::read(rt, pack.as_str()) {
+        Ok(bytes) => Ok(bytes),
+        Err(error) => Err(Failure::Unreadable(pack, error, "a file with a model record")),
+    }
+}
+
+fn steps_of(rt: &LibcRuntime, path: String) -> Result<Walk, Failure> {
+    match fs::read_to_string(rt, path.as_str()) {
+        Ok(text) => walk_of(rt.alloc(), text.as_str()),
+        Err(error) => Err(Failure::Unreadable(path, error, "a text file with a run")),
+    }
+}
 
 fn read(rt: &LibcRuntime, pack: String) -> Result<(), Failure> {
-    let bytes = match fs::read(rt, pack.as_str()) {
-        Ok(bytes) => bytes,
-        Err(error) => return Err(Failure::Unreadable(pack, error)),
-    };
+    let bytes = bytes_of(rt, pack)?;
     let model = model::read(bytes.as_slice())?;
     print_model(rt, &model, bytes.as_slice())?;
+    Ok(())
+}
+
+fn run(rt: &LibcRuntime, pack: String, question: &str, steps: String) -> Result<(), Failure> {
+    let question = question_of(rt.alloc(), question)?;
+    let bytes = bytes_of(rt, pack)?;
+    let walk = steps_of(rt, steps)?;
+    let model = model::read(bytes.as_slice())?;
+    let reached = check_run(
+        bytes.as_slice(),
+        &model,
+        question.as_slice(),
+        walk.start,
+        walk.parts,
+        walk.steps.as_slice(),
+    )?;
+    rt.println(if reached { "yes" } else { "no" })?;
     Ok(())
 }
 
@@ -32,6 +66,11 @@ fn carry_out(rt: &LibcRuntime) -> Result<(), Failure> {
     };
     match command_of(words)? {
         Command::Read { pack } => read(rt, pack),
+        Command::Run {
+            pack,
+            question,
+            steps,
+        } => run(rt, pack, question.as_str(), steps),
     }
 }
 
