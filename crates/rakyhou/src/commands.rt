@@ -49,7 +49,7 @@ fn run_of(mut words: Args) -> Result<Command, Failure> {
 }
 
 // The command of a program's words, of which the first is the program's own name.
-pub fn command_of(mut words: Args) -> Result<Command, Failure> {
+pub(super) fn command_of(mut words: Args) -> Result<Command, Failure> {
     let _program = words.next();
     let Some(name) = words.next() else {
         return Err(Failure::NoCommand);

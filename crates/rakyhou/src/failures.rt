@@ -114,7 +114,7 @@ pub impl fmt::Display for Failure as FailureDisplay {
 impl Failure {
     // Says what happened. The process ends with status 1 in any case, so a line that cannot be
     // written is let go.
-    pub fn tell(&self, rt: &(impl Print + Eprint)) {
+    pub(super) fn tell(&self, rt: &(impl Print + Eprint)) {
         let _ = match self {
             Failure::Refused(_) => println!(rt, "{self}"),
             _ => eprintln!(rt, "rakyhou: {self}"),

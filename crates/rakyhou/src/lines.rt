@@ -40,7 +40,7 @@ fn print_formula(rt: &impl Print, model: &Model, bytes: &[u8], role: Role) -> io
 }
 
 // What a record holds, in its own order.
-pub fn print_model(rt: &impl Print, model: &Model, bytes: &[u8]) -> io::Result<()> {
+pub(super) fn print_model(rt: &impl Print, model: &Model, bytes: &[u8]) -> io::Result<()> {
     println!(rt, "accepted")?;
     print_sizes(rt, &model.sizes)?;
     for clock in 0..model.sizes.clocks {

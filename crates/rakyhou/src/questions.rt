@@ -41,7 +41,7 @@ fn add_bytes(bytes: &mut Vec<u8>, digits: &str) -> Result<(), Failure> {
 }
 
 // The bytes of a question. Blanks may stand between bytes.
-pub fn question_of(heap: Global, text: &str) -> Result<Vec<u8>, Failure> {
+pub(super) fn question_of(heap: Global, text: &str) -> Result<Vec<u8>, Failure> {
     let mut bytes = Vec::new(heap);
     if text == NONE {
         return Ok(bytes);

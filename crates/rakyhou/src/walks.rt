@@ -79,7 +79,7 @@ fn add_step(steps: &mut Vec<Step>, line: &str, number: usize) -> Result<(), Fail
 }
 
 // The run that a text writes. Empty lines at its end say nothing.
-pub fn walk_of(heap: Global, text: &str) -> Result<Walk, Failure> {
+pub(super) fn walk_of(heap: Global, text: &str) -> Result<Walk, Failure> {
     let mut lines = text.trim_ascii_end().lines();
     let Some(first) = lines.next() else {
         return Err(Failure::NoFirstLine);
