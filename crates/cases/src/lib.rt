@@ -7,6 +7,8 @@ mod formulas;
 #[cfg(test)]
 mod limits;
 #[cfg(test)]
+mod numbers;
+#[cfg(test)]
 mod parts;
 #[cfg(test)]
 mod records;

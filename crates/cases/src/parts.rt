@@ -6,7 +6,7 @@ use model::read;
 use std::test::*;
 
 // Three variables and four clocks. The formulas have lengths from 1 to 8.
-const RECORD: &[u8; 57] = b"\x03\x10\x10\x04\x04\
+pub(super) const RECORD: &[u8; 57] = b"\x03\x10\x10\x04\x04\
 \x00\x01t\
 \x00\x02t!\
 \x00\x03v\x00\x0f\
@@ -28,7 +28,7 @@ const PARTS: [(Role, usize, &[u8]); 8] = [
     (Role::Urgent, 49, b"v\x01\x00v\x01\x0f|!"),
 ];
 
-fn model_of(record: &[u8]) -> Result<Model, Fail> {
+pub(super) fn model_of(record: &[u8]) -> Result<Model, Fail> {
     match read(record) {
         Ok(model) => Ok(model),
         Err(fault) => Err(Fail::new(format_args!("refused with {}", fault.refused().number))),

@@ -35,7 +35,13 @@ impl Said {
 }
 
 // What is said of a run in a record.
-pub fn answer(record: &[u8], question: &[u8], start: u32, parts: u32, steps: &[Step]) -> Said {
+pub(super) fn answer(
+    record: &[u8],
+    question: &[u8],
+    start: u32,
+    parts: u32,
+    steps: &[Step],
+) -> Said {
     let model = match read(record) {
         Ok(model) => model,
         Err(fault) => return Said::of(fault),
@@ -61,7 +67,7 @@ fn steps_of(heap: Global, rows: &[(u8, u32, u32)]) -> Result<Vec<Step>, AllocErr
 }
 
 // Every row is answered so in the record.
-pub fn check_runs(heap: Global, record: &[u8], rows: &[Row]) -> Result<(), Fail> {
+pub(super) fn check_runs(heap: Global, record: &[u8], rows: &[Row]) -> Result<(), Fail> {
     for row in rows {
         let (question, start, parts, numbers, expected) = *row;
         let steps = steps_of(heap, numbers)?;
