@@ -4,7 +4,6 @@ use instruction::Refusal;
 use model::read;
 use runs::Step;
 use runs::check_run;
-use std::alloc::AllocError;
 use std::alloc::Global;
 use std::test::*;
 
@@ -17,11 +16,9 @@ pub enum Said {
     Refused(u8, u8, usize),
 }
 
-// Steps: kind, valuation, delay.
-pub type Steps = &'static [(u8, u32, u32)];
-
-// A run: question, start, parts and steps; and what is said of it.
-pub type Row = (&'static [u8], u32, u32, Steps, Said);
+// A question, a run, and what is said of it. The run is written as START D and then KIND VALUATION
+// DELAY for each step, with a comma before it.
+pub type Row = (&'static [u8], &'static str, Said);
 
 impl Said {
     fn of(fault: Fault) -> Said {
@@ -53,28 +50,50 @@ pub(super) fn answer(
     }
 }
 
-fn steps_of(heap: Global, rows: &[(u8, u32, u32)]) -> Result<Vec<Step>, AllocError> {
-    let mut steps = Vec::new(heap);
-    for row in rows {
-        let (kind, valuation, delay) = *row;
-        steps.push(Step {
-            kind,
-            valuation,
-            delay,
-        })?;
+// The numbers between two commas, as many as wanted.
+fn numbers_of(part: &str, wanted: usize) -> Result<[u32; 3], Fail> {
+    let mut numbers = [0u32; 3];
+    let mut count = 0usize;
+    for word in part.split_ascii_whitespace() {
+        if count < 3 {
+            numbers[count] = word.parse::<u32>()?;
+        }
+        count = count.saturating_add(1);
     }
-    Ok(steps)
+    check_eq(count, wanted).note(format_args!("numbers in {part:?}"))?;
+    Ok(numbers)
+}
+
+fn step_of(part: &str) -> Result<Step, Fail> {
+    let [kind, valuation, delay] = numbers_of(part, 3)?;
+    check(kind < 256)?;
+    Ok(Step {
+        kind: kind as u8,
+        valuation,
+        delay,
+    })
+}
+
+// What is said of a run that is written as in a row.
+fn answer_to(heap: Global, record: &[u8], question: &[u8], run: &str) -> Result<Said, Fail> {
+    let mut parts = run.split(',');
+    let Some(first) = parts.next() else {
+        return Err(Fail::new("no numbers"));
+    };
+    let [start, unit, _] = numbers_of(first, 2)?;
+    let mut steps = Vec::new(heap);
+    for part in parts {
+        steps.push(step_of(part)?)?;
+    }
+    Ok(answer(record, question, start, unit, steps.as_slice()))
 }
 
 // Every row is answered so in the record.
 pub(super) fn check_runs(heap: Global, record: &[u8], rows: &[Row]) -> Result<(), Fail> {
     for row in rows {
-        let (question, start, parts, numbers, expected) = *row;
-        let steps = steps_of(heap, numbers)?;
-        let said = answer(record, question, start, parts, steps.as_slice());
-        check_eq(said, expected).note(format_args!(
-            "question {question:?} start {start} parts {parts} steps {numbers:?}"
-        ))?;
+        let (question, run, expected) = *row;
+        let said = answer_to(heap, record, question, run)?;
+        check_eq(said, expected).note(format_args!("question {question:?} run {run}"))?;
     }
     Ok(())
 }
