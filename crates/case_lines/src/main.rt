@@ -4,6 +4,8 @@
 // say nothing. Each answer that differs is printed with the number of its line, and in the end how
 // many cases there are and how many of them are wrong. What the words are stands at the top of the
 // file `stdin`.
+#![tactic(auto)]
+
 mod answers;
 mod asking;
 mod bytes;

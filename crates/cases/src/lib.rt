@@ -2,6 +2,8 @@
 //
 // The rows are worked out by hand from the record format. The module `tried` puts bytes to a
 // reader; the other modules hold the tables by subject.
+#![tactic(auto)]
+
 #[cfg(test)]
 mod formulas;
 #[cfg(test)]

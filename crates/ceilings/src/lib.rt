@@ -3,6 +3,8 @@
 // A clock's ceiling is the largest constant that it is compared with in the
 // invariant, the transition formula and the reset formulas, or 0. Above its
 // ceiling no formula can tell two values of a clock apart.
+#![tactic(auto)]
+
 ghost use Rattle.std.specs.Prelude.{◌≡◌, MatchOption};
 ghost use Rattle.model.specs.Parts.{span_of};
 ghost use Rattle.model.specs.Reading.{layout};

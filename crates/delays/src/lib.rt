@@ -4,6 +4,8 @@
 // many parts a unit has and the fraction of each clock. Where clocks leave
 // their whole numbers a unit gets one part more, right after the present
 // moment, and the delays of all steps before are widened by that.
+#![tactic(auto)]
+
 mod paces;
 mod widening;
 

@@ -4,6 +4,8 @@
 // those of the others; a clock above its ceiling is over. All states of a place
 // show the same to every formula, so to go through all places is to go through all
 // timings. To elapse is to wait until some clock stands otherwise.
+#![tactic(auto)]
+
 mod kind;
 mod timings;
 mod trials;

@@ -3,6 +3,8 @@
 // A formula is accepted when its instructions leave one value and never have
 // more than 32 waiting; those bytes are the writing of exactly one tree.
 // Nothing is copied and nothing is allocated.
+#![tactic(auto)]
+
 mod acceptance;
 mod heights;
 mod stepping;

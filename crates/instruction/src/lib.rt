@@ -3,6 +3,8 @@
 // A formula is written operands first, one mark to an instruction. The fault
 // enum is declared here, at the lowest level, and travels up as it is through
 // formula, section and record.
+#![tactic(auto)]
+
 mod faults;
 mod instructions;
 mod sections;

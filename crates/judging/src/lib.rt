@@ -1,4 +1,6 @@
 // Judging formulas: one loop with a stack of bits, for every reading of the clocks.
+#![tactic(auto)]
+
 mod judgement;
 mod readings;
 mod sides;

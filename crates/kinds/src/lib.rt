@@ -4,6 +4,8 @@
 // trial gives one place or nothing; asking never refuses, changes nothing, and
 // gets the same when put again. What a kind means is one record of functions,
 // and the law that all kinds keep speaks of that record alone.
+#![tactic(auto)]
+
 mod slots;
 mod steps;
 mod time;

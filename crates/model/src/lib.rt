@@ -4,6 +4,8 @@
 // counts. What is accepted is the writing of exactly one sound system; what
 // the reader hands back is that system's sizes and where its formulas lie.
 // Reading is linear in the record's length and allocates nothing.
+#![tactic(auto)]
+
 mod layout;
 mod parts;
 mod questions;

@@ -2,6 +2,8 @@
 //
 // A command looks at a file with the bytes of a model record and answers on standard output.
 // The work is done by the libraries; here are only the words, the files and the lines.
+#![tactic(auto)]
+
 mod commands;
 mod failures;
 mod lines;

@@ -3,6 +3,8 @@
 // A run's clocks are whole numbers of parts of a unit. The check follows the
 // steps one by one; an elapse looks at a few moments for each whole number that
 // a clock meets up to its ceiling, whatever the delay. Nothing is allocated.
+#![tactic(auto)]
+
 mod checking;
 mod elapses;
 mod moments;

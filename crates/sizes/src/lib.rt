@@ -4,6 +4,8 @@
 // They come first since every formula is checked against them. Each number of
 // values is from 2 to 16, and their product, the number of valuations, is kept
 // within 1,024 as it grows.
+#![tactic(auto)]
+
 ghost use Rattle.std.specs.Prelude.{◌≡◌, ◌+◌, ◌≤◌, length, IfOk};
 ghost use Rattle.sizes.specs.Promise.{Measures};
 ghost use Rattle.sizes.specs.Reading.{counted, variables, clock_count};

@@ -1,4 +1,6 @@
 // What the formulas of a record say, for every reading of the clocks.
+#![tactic(auto)]
+
 ghost use Rattle.std.specs.Prelude.{◌≡◌};
 ghost use Rattle.judging.specs.Judging.{seen};
 ghost use Rattle.model.specs.declared.layout.Role.TheVariants.{Reset};

@@ -5,6 +5,8 @@
 // fractions its delays are, and in ticked time exactly when a run with whole
 // delays does. The delays that a kind of time gives to a chain make such a
 // run, with a state in each of the chain's places.
+#![tactic(auto)]
+
 ghost use Rattle.std.specs.Prelude.{◌≡◌};
 ghost use Rattle.ceilings.specs.Ceilings.{Ceilings};
 ghost use Rattle.model.specs.Reading.{layout};

@@ -3,6 +3,8 @@
 // Valuations are numbered in mixed radix, the first variable most significant,
 // from 0 up to the product of the numbers of values. Both ways are linear in
 // the number of variables, and each is the other's inverse.
+#![tactic(auto)]
+
 ghost use Rattle.std.specs.Prelude.{◌≡◌};
 ghost use Rattle.instruction.specs.Counts.{value_counts};
 ghost use Rattle.instruction.specs.Sizes.{product};

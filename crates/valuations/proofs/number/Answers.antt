@@ -12,13 +12,13 @@ pub returns-then-x-n : goal.returns-then-x-n
 returns-then-x-n c =
     unnumbered _ c.args.sizes.now.in_range _ (sym c.variables.invariant.1 ∙ within-not _ _ _ (omega arith) c.variables-test.true _ (omega arith) (omega arith))
 
-pub overflow-add-number : goal.overflow-add-number
-overflow-add-number c =
+pub overflow_add-number : goal.overflow_add-number
+overflow_add-number c =
     let h = number_fits _ _ _ (omega arith) c.variables-test.true c.args.sizes.now.in_range c.variables.number _ _ (below c) c.variables.invariant.0 in
     Fits-below {n = 1024} tt (omega (arith, h))
 
-pub overflow-mul-number : goal.overflow-mul-number
-overflow-mul-number c = Fits-le (omega arith) (overflow-add-number c)
+pub overflow_mul-number : goal.overflow_mul-number
+overflow_mul-number c = Fits-le (omega arith) (overflow_add-number c)
 
 pub variables-preserved : goal.variables-preserved
 variables-preserved c = (

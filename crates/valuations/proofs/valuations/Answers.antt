@@ -4,8 +4,8 @@ use mir.Facts.{Fits-below}
 use Rattle.valuations.proofs.Turns.{product-turn, product-fits, product-end}
 use Rattle.valuations.proofs.valuations.Goals as goal
 
-pub overflow-mul-product : goal.overflow-mul-product
-overflow-mul-product c =
+pub overflow_mul-product : goal.overflow_mul-product
+overflow_mul-product c =
     let h = product-fits _ _ _ (omega arith) c.variables-test.true c.args.sizes.now.in_range c.variables.product _ c.variables.invariant in
     Fits-below {n = 1024} tt (omega (arith, h))
 

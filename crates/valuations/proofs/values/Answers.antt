@@ -10,14 +10,14 @@ variables-init c =
     let end : c.args.sizes.now.variables ≤ c.args.sizes.now.variables = omega arith in
     (omega arith, refl, left_end _ _ _ end _, digits-end _ _ _ end _ 8)
 
-pub nonzero-rem-values : goal.nonzero-rem-values
-nonzero-rem-values c = some-values c.args.sizes.now.variables _ _ (omega arith) (omega arith) c.args.sizes.now.in_range
+pub nonzero_rem-values : goal.nonzero_rem-values
+nonzero_rem-values c = some-values c.args.sizes.now.variables _ _ (omega arith) (omega arith) c.args.sizes.now.in_range
 
-pub overflow-cast-values : goal.overflow-cast-values
-overflow-cast-values c = Fits-below {n = 16} tt (value-small c.args.sizes.now.variables _ _ (omega arith) (omega arith) c.args.sizes.now.in_range _)
+pub overflow_cast-values : goal.overflow_cast-values
+overflow_cast-values c = Fits-below {n = 16} tt (value-small c.args.sizes.now.variables _ _ (omega arith) (omega arith) c.args.sizes.now.in_range _)
 
-pub nonzero-div-left : goal.nonzero-div-left
-nonzero-div-left c = nonzero-rem-values c
+pub nonzero_div-left : goal.nonzero_div-left
+nonzero_div-left c = nonzero_rem-values c
 
 pub variables-preserved : goal.variables-preserved
 variables-preserved c =

@@ -22,7 +22,7 @@ steps-preserved c =
       total-turn _ _ c.steps.steps _ none next less c.steps.invariant.3 _ c.steps.invariant.1,
       omega arith,
       front-turn _ _ c.steps.steps _ none next less c.steps.invariant.3 _,
-      wide-turn _ _ c.steps.steps _ none next less c.steps.invariant.3 _ _ _ here c.steps.invariant.1 c.widened-delay.ensures.is c.steps.invariant.4,
+      wide-turn _ _ c.steps.steps _ none next less c.steps.invariant.3 _ _ _ here c.steps.invariant.1 c.widened_delay.ensures.is c.steps.invariant.4,
     )
 
 pub returns : goal.returns

@@ -4,16 +4,16 @@ use Rattle.instruction.specs.Reader.{width}
 use Rattle.formula.proofs.Scanned.{turn, no-op, ended, measured}
 use Rattle.formula.proofs.heights.highest.Goals as goal
 
-pub returns-in-default : goal.returns-in-default
-returns-in-default c =
+pub returns-in_default : goal.returns-in_default
+returns-in_default c =
     let some : 0 < length c.instructions.rest.now = omega (arith, false-eqb _ 0 c.instructions-test.ensures) in
-    measured _ _ _ _ _ (sym (no-op _ _ _ c.instructions.height _ _ c.instructions.rest.now (omega arith) some (sym c.in-default.ensures.answer)) ∙ c.instructions.invariant.1)
+    measured _ _ _ _ _ (sym (no-op _ _ _ c.instructions.height _ _ c.instructions.rest.now (omega arith) some (sym c.in_default.ensures.answer)) ∙ c.instructions.invariant.1)
 
 pub instructions-preserved : goal.instructions-preserved
 instructions-preserved c =
     let wide : (1 ≤ width c.in-Ok.instruction) × (width c.in-Ok.instruction ≤ length c.instructions.rest.now) = c.in-Ok.ensures.some _ refl in
     let e = turn _ _ _ c.instructions.height _ _ c.instructions.rest.now (omega arith) (omega arith) wide.0 (sym c.in-Ok.ensures.answer) in
-    rw take_rest (simp length-drop (omega arith), simp (c.width-of.ensures, c.max-height.ensures, c.constant-of.ensures) (sym e ∙ c.instructions.invariant.1))
+    rw take_rest (simp length-drop (omega arith), simp (c.width_of.ensures, c.max-height.ensures, c.constant_of.ensures) (sym e ∙ c.instructions.invariant.1))
 
 pub returns : goal.returns
 returns c =

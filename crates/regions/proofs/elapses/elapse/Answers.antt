@@ -4,19 +4,19 @@ use Rattle.regions.proofs.Waiting.{rooms, lift-way, roll-way}
 use Rattle.regions.proofs.elapses.elapse.Goals as goal
 
 pub rolls-requires : goal.rolls-requires
-rolls-requires c = rooms c.trims-fit.result c.trims-fit.ensures.fit (sym c.if-some-sharp.ensures)
+rolls-requires c = rooms c.trims-fit.result c.trims-fit.ensures.fit (sym c.if-some_sharp.ensures)
 
-pub returns-then-some-sharp : goal.returns-then-some-sharp
-returns-then-some-sharp c =
-    elapse-told c.args.clocks c.args.ceilings c.close-up.result
-    (lift-way c.args.clocks c.args.ceilings c.trims-fit.result c.lifts.result c.close-up.result
-    c.trims-fit.ensures.value c.trims-fit.ensures.fit c.close-up.ensures.value (sym c.if-some-sharp.ensures) c.lifts.ensures)
-    c.close-up.ensures.gapless
+pub returns-then-some_sharp : goal.returns-then-some_sharp
+returns-then-some_sharp c =
+    elapse-told c.args.clocks c.args.ceilings c.close_up.result
+    (lift-way c.args.clocks c.args.ceilings c.trims-fit.result c.lifts.result c.close_up.result
+    c.trims-fit.ensures.value c.trims-fit.ensures.fit c.close_up.ensures.value (sym c.if-some_sharp.ensures) c.lifts.ensures)
+    c.close_up.ensures.gapless
 
-pub returns-else-some-sharp : goal.returns-else-some-sharp
-returns-else-some-sharp c =
-    elapse-told c.args.clocks c.args.ceilings c.close-up-else-some-sharp.result
-    (roll-way c.args.clocks c.args.ceilings c.trims-fit.result c.rolls.result c.close-up-else-some-sharp.result
-    c.trims-fit.ensures.value c.trims-fit.ensures.fit c.close-up-else-some-sharp.ensures.value
-    c.top-rank.result c.top-rank.ensures (sym c.if-some-sharp.ensures) c.rolls.ensures)
-    c.close-up-else-some-sharp.ensures.gapless
+pub returns-else-some_sharp : goal.returns-else-some_sharp
+returns-else-some_sharp c =
+    elapse-told c.args.clocks c.args.ceilings c.close_up-else-some_sharp.result
+    (roll-way c.args.clocks c.args.ceilings c.trims-fit.result c.rolls.result c.close_up-else-some_sharp.result
+    c.trims-fit.ensures.value c.trims-fit.ensures.fit c.close_up-else-some_sharp.ensures.value
+    c.top_rank.result c.top_rank.ensures (sym c.if-some_sharp.ensures) c.rolls.ensures)
+    c.close_up-else-some_sharp.ensures.gapless

@@ -8,8 +8,8 @@ use Rattle.tables.specs.Tables.{table_in, asked}
 use Rattle.runs.proofs.Following.{Small, stay-small, fine_more, each-fine, ahead, behind, nowhere, arrived}
 use Rattle.runs.proofs.checking.follows.Goals as goal
 
-pub next-state-requires : goal.next-state-requires
-next-state-requires c =
+pub next_state-requires : goal.next_state-requires
+next_state-requires c =
     let i : c.steps.i < 65535 = omega (arith, c.requires.short, c.steps-test.true) in
     record {
       some = c.requires.some;
@@ -19,8 +19,8 @@ next-state-requires c =
       fine = each-fine (product (value_counts c.args.model.now.sizes)) c.args.steps.now c.steps.i _ c.steps-test.true c.steps.invariant.0;
     }
 
-pub returns-in-default : goal.returns-in-default
-returns-in-default c = nowhere (table_in c.args.bytes.now c.args.model.now) (asked c.args.question.now c.args.model.now) c.args.unit c.args.steps.now (Leads (table_in c.args.bytes.now c.args.model.now) (asked c.args.question.now c.args.model.now) c.args.unit (first c.args.start) c.args.steps.now) c.steps.i (record { kind = 0; valuation = 0; delay = 0 }) (state_of c.steps.at) c.steps-test.true (c.in-default.ensures.is.stuck refl) c.steps.invariant.3
+pub returns-in_default : goal.returns-in_default
+returns-in_default c = nowhere (table_in c.args.bytes.now c.args.model.now) (asked c.args.question.now c.args.model.now) c.args.unit c.args.steps.now (Leads (table_in c.args.bytes.now c.args.model.now) (asked c.args.question.now c.args.model.now) c.args.unit (first c.args.start) c.args.steps.now) c.steps.i (record { kind = 0; valuation = 0; delay = 0 }) (state_of c.steps.at) c.steps-test.true (c.in_default.ensures.is.stuck refl) c.steps.invariant.3
 
 pub steps-preserved : goal.steps-preserved
 steps-preserved c =

@@ -9,13 +9,13 @@ pub returns-then-not-valid : goal.returns-then-not-valid
 returns-then-not-valid c =
     let inv : (ℕ → ℕ → Side) → Bool = lasting c.args.bytes.now c.args.model.now c.args.values.now in
     let dep : Depends (λ k. get_or c.args.ceilings k 0) (lasting c.args.bytes.now c.args.model.now c.args.values.now) = depends c.args.bytes.now c.args.model.now c.args.values.now c.args.ceilings c.requires.heights c.args.model.now.sizes.few_clocks in
-    not_after inv c.args.unit c.events.clocks c.args.ceilings dep (Always (lasting c.args.bytes.now c.args.model.now c.args.values.now) c.args.unit (λ k. get_or c.args.clocks k 0) c.args.delay) c.events.delay c.just-after-after.result c.events-test.true c.just-after-after.ensures (sym c.if-not-valid.true ∙ c.valid.ensures) c.events.invariant.3
+    not_after inv c.args.unit c.events.clocks c.args.ceilings dep (Always (lasting c.args.bytes.now c.args.model.now c.args.values.now) c.args.unit (λ k. get_or c.args.clocks k 0) c.args.delay) c.events.delay c.just_after-after.result c.events-test.true c.just_after-after.ensures (sym c.if-not-valid.true ∙ c.valid.ensures) c.events.invariant.3
 
 pub returns-then-wait-delay : goal.returns-then-wait-delay
 returns-then-wait-delay c =
     let inv : (ℕ → ℕ → Side) → Bool = lasting c.args.bytes.now c.args.model.now c.args.values.now in
     let dep : Depends (λ k. get_or c.args.ceilings k 0) (lasting c.args.bytes.now c.args.model.now c.args.values.now) = depends c.args.bytes.now c.args.model.now c.args.values.now c.args.ceilings c.requires.heights c.args.model.now.sizes.few_clocks in
-    to_the_end inv c.args.unit c.events.clocks c.args.ceilings dep (Always (lasting c.args.bytes.now c.args.model.now c.args.values.now) c.args.unit (λ k. get_or c.args.clocks k 0) c.args.delay) c.events.delay c.soonest-wait.result c.just-after-after.result c.events-test.true c.if-wait-delay.true c.soonest-wait.ensures c.just-after-after.ensures (sym c.if-not-valid.false ∙ c.valid.ensures) c.events.invariant.2
+    to_the_end inv c.args.unit c.events.clocks c.args.ceilings dep (Always (lasting c.args.bytes.now c.args.model.now c.args.values.now) c.args.unit (λ k. get_or c.args.clocks k 0) c.args.delay) c.events.delay c.soonest-wait.result c.just_after-after.result c.events-test.true c.if-wait-delay.true c.soonest-wait.ensures c.just_after-after.ensures (sym c.if-not-valid.false ∙ c.valid.ensures) c.events.invariant.2
 
 pub returns-then-not-valid-2 : goal.returns-then-not-valid-2
 returns-then-not-valid-2 c =
@@ -35,7 +35,7 @@ events-preserved c =
     let g3 : get_or c.grown-met.result 3 0 ≡ get_or c.events.clocks 3 0 + c.soonest-wait.result = ap (λ y. get_or y 3 0) c.grown-met.ensures in (
       size,
       (omega (arith, c.events.invariant.1), omega (arith, c.events.invariant.1), omega (arith, c.events.invariant.1), omega (arith, c.events.invariant.1)),
-      goes_on inv c.args.unit c.events.clocks c.args.ceilings dep (Always (lasting c.args.bytes.now c.args.model.now c.args.values.now) c.args.unit (λ k. get_or c.args.clocks k 0) c.args.delay) c.events.delay c.soonest-wait.result c.just-after-after.result c.grown-met.result less c.soonest-wait.ensures c.just-after-after.ensures (sym c.if-not-valid.false ∙ c.valid.ensures) c.grown-met.ensures (sym c.if-not-valid-2.false ∙ c.valid-in-events.ensures) c.events.invariant.2,
+      goes_on inv c.args.unit c.events.clocks c.args.ceilings dep (Always (lasting c.args.bytes.now c.args.model.now c.args.values.now) c.args.unit (λ k. get_or c.args.clocks k 0) c.args.delay) c.events.delay c.soonest-wait.result c.just_after-after.result c.grown-met.result less c.soonest-wait.ensures c.just_after-after.ensures (sym c.if-not-valid.false ∙ c.valid.ensures) c.grown-met.ensures (sym c.if-not-valid-2.false ∙ c.valid-in-events.ensures) c.events.invariant.2,
       comes_back inv c.args.unit c.events.clocks c.args.ceilings dep (Always (lasting c.args.bytes.now c.args.model.now c.args.values.now) c.args.unit (λ k. get_or c.args.clocks k 0) c.args.delay) c.events.delay c.soonest-wait.result c.grown-met.result less c.grown-met.ensures c.events.invariant.3,
     )
 

@@ -7,9 +7,9 @@ returns c =
     record {
       some = omega arith;
       each = (
-        sooner _ _ _ c.next-whole.result c.min-2.result (omega arith) c.next-whole.ensures.soon,
-        sooner _ _ _ c.next-whole-2.result c.min-2.result (omega arith) c.next-whole-2.ensures.soon,
-        sooner _ _ _ c.next-whole-3.result c.min-2.result (omega arith) c.next-whole-3.ensures.soon,
-        sooner _ _ _ c.next-whole-4.result c.min-2.result (omega arith) c.next-whole-4.ensures.soon,
+        sooner _ _ _ c.next_whole.result c.min-2.result (omega arith) c.next_whole.ensures.soon,
+        sooner _ _ _ c.next_whole-2.result c.min-2.result (omega arith) c.next_whole-2.ensures.soon,
+        sooner _ _ _ c.next_whole-3.result c.min-2.result (omega arith) c.next_whole-3.ensures.soon,
+        sooner _ _ _ c.next_whole-4.result c.min-2.result (omega arith) c.next_whole-4.ensures.soon,
       );
     }
