@@ -11,8 +11,8 @@ variables-init c =
     let zero : get_or c.args.bytes.now 0 0 - 0 ≡ get_or c.args.bytes.now 0 0 = omega arith in
     rw take_rest (refl, omega arith, simp length-drop (omega (arith, some)), simp zero)
 
-pub returns-in_default-default : goal.returns-in_default-default
-returns-in_default-default c =
+pub returns-in_default-rest : goal.returns-in_default-rest
+returns-in_default-rest c =
     let bs : List ℕ = c.args.bytes.now in
     let e = variables-are bs (search rules) c.if-variables-gt-MOST_VARIABLES.false ∙ sym c.variables.invariant.3
     ∙ count-missing (length bs) (get_or bs 0 0 - c.variables.i) c.variables.product _ c.variables.rest.now (omega (arith, c.variables-test.true)) (search rules) in
@@ -21,7 +21,7 @@ returns-in_default-default c =
 pub returns-in_err-product : goal.returns-in_err-product
 returns-in_err-product c =
     let bs : List ℕ = c.args.bytes.now in
-    let p = err_from_is_err_and c.from-residual.result c.from-residual.ensures.1 in
+    let p = err_from_is_err_and c.from_residual.result c.from_residual.ensures.1 in
     let e = variables-are bs (search rules) c.if-variables-gt-MOST_VARIABLES.false ∙ sym c.variables.invariant.3
     ∙ count-refused (length bs) _ c.variables.product _ _ _ _ c.variables.rest.now (omega (arith, c.variables-test.true)) (search rules) refl refl (sym c.in_err-product.ensures) in
     rw (p.1, p.2) (record { fits = tt; is = sym e })

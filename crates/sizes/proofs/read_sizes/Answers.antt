@@ -6,12 +6,12 @@ use Rattle.sizes.proofs.read_sizes.Goals as goal
 
 pub returns-in_err-declared : goal.returns-in_err-declared
 returns-in_err-declared c =
-    let p = err_from_is_err_and c.from-residual.result c.from-residual.ensures.1 in
+    let p = err_from_is_err_and c.from_residual.result c.from_residual.ensures.1 in
     rw (p.1, p.2) (record { fits = tt; is = measured c.args.bytes.now _ (undeclared-by c.args.bytes.now _ c.in_err-declared.ensures.is) })
 
 pub returns-in_err-clocks : goal.returns-in_err-clocks
 returns-in_err-clocks c =
-    let p = err_from_is_err_and c.from-residual-in_err-clocks.result c.from-residual-in_err-clocks.ensures.1 in
+    let p = err_from_is_err_and c.from_residual-in_err-clocks.result c.from_residual-in_err-clocks.ensures.1 in
     let bs : List ℕ = c.args.bytes.now in
     let v : ℕ = c.in_ok-declared.declared.variables in
     let size : length (take v c.in_ok-declared.declared.counts) ≡ v = length-take-le v c.in_ok-declared.declared.counts (search rules) in
@@ -21,7 +21,7 @@ returns-in_err-clocks c =
 pub invariant_of-result : goal.invariant_of-result
 invariant_of-result c =
     let d = variables-was c.args.bytes.now (take c.in_ok-declared.declared.variables c.in_ok-declared.declared.counts) (sym c.in_ok-declared.ensures.is) in
-    (c.in_ok-declared.ensures.fits.0, (c.in_ok-clocks.ensures.fits.0, (d.countable.values, (d.countable.valuations, tt))))
+    record { few_variables = c.in_ok-declared.ensures.fits.0; few_clocks = c.in_ok-clocks.ensures.fits.0; in_range = d.countable.values; few_valuations = d.countable.valuations }
 
 pub returns : goal.returns
 returns c =

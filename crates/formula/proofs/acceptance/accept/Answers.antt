@@ -8,14 +8,14 @@ use Rattle.formula.proofs.acceptance.accept.Goals as goal
 
 pub returns-in_err-instruction : goal.returns-in_err-instruction
 returns-in_err-instruction c = told _ _ _ _ _ _ (
-    let p = err_from_is_err_and c.from-residual.result c.from-residual.ensures.1 in
+    let p = err_from_is_err_and c.from_residual.result c.from_residual.ensures.1 in
     let some : 0 < length c.instructions.rest.now = omega (arith, false-eqb _ 0 c.instructions-test.ensures) in
     let e = no-op _ _ _ _ c.instructions.waiting _ _ c.instructions.rest.now refl some (sym c.in_err-instruction.ensures.answer) in
     cc)
 
 pub returns-in_err-waiting : goal.returns-in_err-waiting
 returns-in_err-waiting c = told _ _ _ _ _ _ (
-    let p = err_from_is_err_and c.from-residual-in_err-waiting.result c.from-residual-in_err-waiting.ensures.1 in
+    let p = err_from_is_err_and c.from_residual-in_err-waiting.result c.from_residual-in_err-waiting.ensures.1 in
     let some : 0 < length c.instructions.rest.now = omega (arith, false-eqb _ 0 c.instructions-test.ensures) in
     let e = no-wait _ _ _ _ c.instructions.waiting _ _ _ c.instructions.rest.now refl some (sym c.in_ok-instruction.ensures.answer) (sym (c.in_err-waiting.ensures ∙ ap (λ a. waits c.in_ok-instruction.instruction c.args.section a c.instructions.waiting) c.saturating_sub-at.ensures)) in
     cc)

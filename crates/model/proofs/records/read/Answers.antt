@@ -6,7 +6,7 @@ use Rattle.model.proofs.records.read.Goals as goal
 
 pub returns-in_err-sizes : goal.returns-in_err-sizes
 returns-in_err-sizes c =
-    let p = err_from_is_err_and c.from-residual.result c.from-residual.ensures.1 in
+    let p = err_from_is_err_and c.from_residual.result c.from_residual.ensures.1 in
     promised c.args.bytes.now _ (rw (p.1, p.2) (refused-by c.args.bytes.now _ c.in_err-sizes.ensures.is.answer))
 
 pub returns : goal.returns

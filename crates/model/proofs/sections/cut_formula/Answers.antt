@@ -7,7 +7,7 @@ use Rattle.model.proofs.sections.cut_formula.Goals as goal
 
 pub returns-in_err-accept : goal.returns-in_err-accept
 returns-in_err-accept c =
-    let p = err_from_is_err_and c.from-residual.result c.from-residual.ensures.1 in
+    let p = err_from_is_err_and c.from_residual.result c.from_residual.ensures.1 in
     let left : List ℕ = c.args.left.now in
     let zero : count left - 0 ≡ count left = omega arith in
     let f = refused-by _ _ _ _ left _ _ _ _ (search rules) (omega arith) (omega arith) (take_rest left 2) (ap (λ k. take k (take (length left - 2) (drop 2 left))) zero) c.saturating_sub-at.ensures c.in_err-accept.ensures.answer in

@@ -8,7 +8,7 @@ use Rattle.model.proofs.sections.read_resets.Goals as goal
 
 pub returns-in_err-reset : goal.returns-in_err-reset
 returns-in_err-reset c =
-    let p = err_from_is_err_and c.from-residual.result c.from-residual.ensures.1 in
+    let p = err_from_is_err_and c.from_residual.result c.from_residual.ensures.1 in
     let n : ℕ = c.args.sizes.now.clocks in
     let e = sym c.clocks.invariant.1 ∙ reset-refused (value_counts c.args.sizes.now) n c.args.end (n - c.clocks.clock) (take c.clocks.clock c.clocks.spans) _ c.clocks.rest.now (omega (arith, c.clocks-test.true)) (sym c.in_err-reset.ensures) in
     rw (p.1, p.2) (sym e)

@@ -6,7 +6,7 @@ use Rattle.runs.proofs.checking.check_run.Goals as goal
 
 pub returns-in_err-read_question : goal.returns-in_err-read_question
 returns-in_err-read_question c =
-    let p = err_from_is_err_and c.from-residual.result c.from-residual.ensures.1 in
+    let p = err_from_is_err_and c.from_residual.result c.from_residual.ensures.1 in
     rw (p.1, p.2) (bad-question c.args.bytes.now c.args.model.now c.args.question.now c.args.start c.args.parts c.args.steps.now _ c.in_err-read_question.ensures.answer)
 
 pub returns-then-not-are_numbered : goal.returns-then-not-are_numbered
@@ -15,7 +15,7 @@ returns-then-not-are_numbered c =
 
 pub returns-in_err-check_steps : goal.returns-in_err-check_steps
 returns-in_err-check_steps c =
-    let p = err_from_is_err_and c.from-residual-in_err-check_steps.result c.from-residual-in_err-check_steps.ensures.1 in
+    let p = err_from_is_err_and c.from_residual-in_err-check_steps.result c.from_residual-in_err-check_steps.ensures.1 in
     rw (p.1, p.2) (bad-steps c.args.bytes.now c.args.model.now c.args.question.now c.args.start c.args.parts c.args.steps.now c.in_ok-read_question.ensures.answer c.valuations-valuations.result c.valuations-valuations.ensures _ c.if-not-are_numbered.ensures c.in_err-check_steps.ensures)
 
 pub returns-then-not-begins : goal.returns-then-not-begins
