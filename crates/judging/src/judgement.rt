@@ -47,7 +47,7 @@ fn applied<R: Reading>(
     values: &[u8; 8],
     next: &[u8; 8],
 ) -> u32
-    ensures { result ≡ after (seen values.now next.now (side reading.now)) instruction stack }
+    ensures { result ≡ after (seen values.now next.now (R.side reading.now)) instruction stack }
 {
     match instruction {
         Instruction::Is(i, k) => pushed(stack, value_of(values, i) == k),
@@ -69,7 +69,7 @@ pub fn judge<R: Reading>(
     values: &[u8; 8],
     next: &[u8; 8],
 ) -> bool
-    ensures { Judges (value_counts sizes.now) sizes.now.clocks (seen values.now next.now (side reading.now)) code.now result }
+    ensures { Judges (value_counts sizes.now) sizes.now.clocks (seen values.now next.now (R.side reading.now)) code.now result }
 {
     let mut rest = code;
     let mut stack: u32 = 0;

@@ -22,7 +22,7 @@ pub fn says<R: Reading>(
     values: &[u8; 8],
     next: &[u8; 8],
 ) -> bool
-    ensures answer { result ≡ says_of bytes.now model.now role (seen values.now next.now (side reading.now)) }
+    ensures answer { result ≡ says_of bytes.now model.now role (seen values.now next.now (R.side reading.now)) }
     ensures system { (k : System) → Sound k → Records k bytes.now → layout model.now ≡ laid k → table_in bytes.now model.now ≡ table_of k }
 {
     match model.formula(bytes, role) {
@@ -39,7 +39,7 @@ pub fn resets<R: Reading>(
     values: &[u8; 8],
     next: &[u8; 8],
 ) -> [bool; 4]
-    ensures { result ≡ four (λ c. says_of bytes.now model.now (Reset c) (seen values.now next.now (side reading.now))) }
+    ensures { result ≡ four (λ c. says_of bytes.now model.now (Reset c) (seen values.now next.now (R.side reading.now))) }
 {
     [
         says(bytes, model, Role::Reset(0), reading, values, next),
