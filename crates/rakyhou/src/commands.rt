@@ -1,53 +1,96 @@
-// The words on the command line.
+// What the words on the command line ask for.
 use super::failures::Failure;
+use std::env::Args;
 
 // The kinds of time.
 #[derive(Clone, Copy)]
-pub(super) enum Kind {
+pub enum Kind {
     Dense,
     Ticked,
 }
 
-// The words behind the command, empty where there is none.
-#[derive(Clone, Copy)]
-pub(super) struct Words<'a> {
-    pub(super) first: &'a str,
-    pub(super) second: &'a str,
-    pub(super) third: &'a str,
+#[derive(Drop)]
+pub enum Command {
+    // what a record holds
+    Read {
+        pack: String,
+    },
+    // whether a run of it reaches a question
+    Run {
+        pack: String,
+        question: String,
+        steps: String,
+    },
+    // a walk by hand through the places of a kind of time
+    Walk {
+        pack: String,
+        trials: String,
+        kind: Kind,
+    },
 }
 
-fn word<'a>(words: &'a [String], at: usize) -> &'a str {
-    match words.get(at) {
-        Some(word) => word.as_str(),
-        None => "",
+fn next_word(words: &mut Args) -> Result<String, Failure> {
+    match words.next() {
+        Some(word) => Ok(word),
+        None => Err(Failure::TooFewWords),
     }
 }
 
-// The words behind the program's own name and the command, of which there are from `least` to `most`.
-pub(super) fn words_behind<'a>(
-    words: &'a [String],
-    least: usize,
-    most: usize,
-) -> Result<Words<'a>, Failure<'a>> {
-    let count = words.len().saturating_sub(2);
-    if count < least {
-        return Err(Failure::Words("too few words", ""));
+fn no_more(mut words: Args) -> Result<(), Failure> {
+    match words.next() {
+        Some(_) => Err(Failure::TooManyWords),
+        None => Ok(()),
     }
-    if count > most {
-        return Err(Failure::Words("too many words", ""));
-    }
-    Ok(Words {
-        first: word(words, 2),
-        second: word(words, 3),
-        third: word(words, 4),
-    })
 }
 
 // Dense time where no word says which.
-pub(super) fn kind_of<'a>(word: &'a str) -> Result<Kind, Failure<'a>> {
-    match word {
-        "dense" | "" => Ok(Kind::Dense),
+fn kind_of(word: Option<String>) -> Result<Kind, Failure> {
+    let Some(word) = word else {
+        return Ok(Kind::Dense);
+    };
+    match word.as_str() {
+        "dense" => Ok(Kind::Dense),
         "ticked" => Ok(Kind::Ticked),
-        _ => Err(Failure::Words("unknown kind of time: ", word)),
+        _ => Err(Failure::UnknownTime(word)),
+    }
+}
+
+fn read_of(mut words: Args) -> Result<Command, Failure> {
+    let pack = next_word(&mut words)?;
+    no_more(words)?;
+    Ok(Command::Read { pack })
+}
+
+fn run_of(mut words: Args) -> Result<Command, Failure> {
+    let pack = next_word(&mut words)?;
+    let question = next_word(&mut words)?;
+    let steps = next_word(&mut words)?;
+    no_more(words)?;
+    Ok(Command::Run {
+        pack,
+        question,
+        steps,
+    })
+}
+
+fn walk_of(mut words: Args) -> Result<Command, Failure> {
+    let pack = next_word(&mut words)?;
+    let trials = next_word(&mut words)?;
+    let kind = kind_of(words.next())?;
+    no_more(words)?;
+    Ok(Command::Walk { pack, trials, kind })
+}
+
+// The command of a program's words, of which the first is the program's own name.
+pub(super) fn command_of(mut words: Args) -> Result<Command, Failure> {
+    let _program = words.next();
+    let Some(name) = words.next() else {
+        return Err(Failure::NoCommand);
+    };
+    match name.as_str() {
+        "read" => read_of(words),
+        "run" => run_of(words),
+        "walk" => walk_of(words),
+        _ => Err(Failure::UnknownCommand(name)),
     }
 }

@@ -4,19 +4,12 @@ use model::{Model, Role};
 use std::io;
 use valuations::valuations;
 
-// The number of values of each variable.
-fn print_counts(rt: &HostRuntime, counts: &[u8]) -> io::Result<()> {
-    for count in counts {
+fn print_sizes(rt: &impl Print, sizes: &Sizes) -> io::Result<()> {
+    print!(rt; "variables")?;
+    for count in sizes.counts.iter().take(sizes.variables as usize) {
         print!(rt; " {count}")?;
     }
-    rt.println("")
-}
-
-fn print_sizes(rt: &HostRuntime, sizes: &Sizes) -> io::Result<()> {
-    rt.print("variables")?;
-    let counts = sizes.counts;
-    print_counts(rt, &counts[0..sizes.variables as usize])?;
-    println!(rt; "clocks {}", sizes.clocks)?;
+    println!(rt; "\nclocks {}", sizes.clocks)?;
     println!(rt; "valuations {}", valuations(sizes))
 }
 
@@ -31,7 +24,7 @@ fn section_of(role: Role) -> Section {
 }
 
 // Where a formula lies: its section, the position of its first byte, and its length.
-fn print_formula(rt: &HostRuntime, model: &Model, bytes: &[u8], role: Role) -> io::Result<()> {
+fn print_formula(rt: &impl Print, model: &Model, bytes: &[u8], role: Role) -> io::Result<()> {
     let Some(part) = model.formula(bytes, role) else {
         return Ok(());
     };
@@ -44,7 +37,7 @@ fn print_formula(rt: &HostRuntime, model: &Model, bytes: &[u8], role: Role) -> i
 }
 
 // What a record holds, in its own order.
-pub(super) fn print_model(rt: &HostRuntime, model: &Model, bytes: &[u8]) -> io::Result<()> {
+pub(super) fn print_model(rt: &impl Print, model: &Model, bytes: &[u8]) -> io::Result<()> {
     println!(rt; "accepted")?;
     print_sizes(rt, &model.sizes)?;
     for clock in 0..model.sizes.clocks {

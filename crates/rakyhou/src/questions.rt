@@ -2,64 +2,55 @@
 use super::failures::Failure;
 use std::alloc::Global;
 
-const EXPECTED: &str = "two hex digits to a byte, or - for no byte";
-
-const ODD: &str = "question: an odd number of digits";
-
 // The word that stands for a question of no bytes.
 const NONE: &str = "-";
 
-fn digit_of(c: u8) -> Option<u8> {
+fn digit_of(c: char) -> Result<u8, Failure> {
     match c {
-        b'0'..=b'9' => Some(c - b'0'),
-        b'a'..=b'f' => Some(c - b'a' + 10),
-        b'A'..=b'F' => Some(c - b'A' + 10),
-        _ => None,
+        '0'..='9' => Ok((c as u32 - '0' as u32) as u8),
+        'a'..='f' => Ok((c as u32 - 'a' as u32 + 10) as u8),
+        'A'..='F' => Ok((c as u32 - 'A' as u32 + 10) as u8),
+        _ => Err(Failure::NoHexDigit(c)),
     }
 }
 
-fn add_byte(bytes: &mut Vec<u8>, high: u8, low: u8) -> Result<Option<u8>, &'static str> {
+fn add_byte(bytes: &mut Vec<u8>, high: u8, low: u8) -> Result<(), Failure> {
     match bytes.push((high & 15) << 4 | low) {
-        Ok(()) => Ok(None),
-        Err(_) => Err("question: no memory left"),
+        Ok(()) => Ok(()),
+        Err(_) => Err(Failure::NoMemory),
     }
 }
 
-// Takes one more character behind the first digit of a byte, or behind none. Blanks may stand between
-// bytes.
-fn taken(bytes: &mut Vec<u8>, high: Option<u8>, c: u8) -> Result<Option<u8>, &'static str> {
-    match (digit_of(c), high) {
-        (Some(low), Some(high)) => add_byte(bytes, high, low),
-        (Some(digit), None) => Ok(Some(digit)),
-        (None, _) if !c.is_ascii_whitespace() => Err("question: a character is no hex digit"),
-        (None, Some(_)) => Err(ODD),
-        (None, None) => Ok(None),
-    }
-}
-
-// Adds the bytes of a text.
-fn add_bytes(bytes: &mut Vec<u8>, text: &[u8]) -> Result<(), &'static str> {
+// Adds the bytes of digits with no blank among them.
+fn add_bytes(bytes: &mut Vec<u8>, digits: &str) -> Result<(), Failure> {
     let mut high = None;
-    for c in text {
-        high = taken(bytes, high, *c)?;
+    for c in digits.chars() {
+        let digit = digit_of(c)?;
+        high = match high {
+            None => Some(digit),
+            Some(high) => {
+                add_byte(bytes, high, digit)?;
+                None
+            }
+        };
     }
     match high {
         None => Ok(()),
-        Some(_) => Err(ODD),
+        Some(_) => Err(Failure::HalfByte),
     }
 }
 
-// The bytes of a question.
-pub(super) fn question_of(heap: Global, text: &str) -> Result<Vec<u8>, Failure<'static>> {
+// The bytes of a question. Blanks may stand between bytes.
+pub(super) fn question_of(heap: Global, text: &str) -> Result<Vec<u8>, Failure> {
     let mut bytes = Vec::new(heap);
     if text == NONE {
         return Ok(bytes);
     }
-    if let Err(what) = add_bytes(&mut bytes, text.as_bytes()) {
-        return Err(Failure::Bad(what, EXPECTED));
+    for digits in text.split_ascii_whitespace() {
+        add_bytes(&mut bytes, digits)?;
     }
     if bytes.is_empty() {
-        return Err(Failure::Bad("question: no digit", EXPECTED));
+        return Err(Failure::NoDigits);
     }
     Ok(bytes)
 }

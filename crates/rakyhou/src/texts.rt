@@ -6,18 +6,33 @@ use std::alloc::Global;
 
 // The first line of a run, and each line of its steps.
 pub(super) const RUN: Form = Form {
+    text: "run",
     wanted: 2,
+    first: "the start valuation",
     most: u32::MAX,
     expected: "a first line START D",
 };
 
 pub(super) const STEP: Form = Form {
+    text: "run",
     wanted: 3,
+    first: "the kind",
     most: MOST_KINDS,
-    expected: "a line KIND VALUATION DELAY, the kind up to 255",
+    expected: "a line KIND VALUATION DELAY",
 };
 
 const MOST_KINDS: u32 = 255;
+
+// A line of a walk with the number of a trial, of so many.
+pub(super) fn trial_below(trials: u16) -> Form {
+    Form {
+        text: "walk",
+        wanted: 1,
+        first: "the trial",
+        most: trials.saturating_sub(1) as u32,
+        expected: "a line with the number of a trial",
+    }
+}
 
 // The numbers of the first line, and the steps.
 #[derive(Drop)]
@@ -43,36 +58,33 @@ fn step_by(numbers: [u32; 3], form: Form) -> Step {
     }
 }
 
-fn add_step(
-    steps: &mut Vec<Step>,
-    words: &str,
-    number: usize,
-    form: Form,
-) -> Result<(), Failure<'static>> {
-    let numbers = numbers_of(words, number, form)?;
+// Adds the step of a line, which is the one with this number in its file.
+fn add_step(steps: &mut Vec<Step>, line: &str, number: usize, form: Form) -> Result<(), Failure> {
+    let numbers = match numbers_of(line, form) {
+        Ok(numbers) => numbers,
+        Err(flaw) => return Err(Failure::Line(number, flaw, form)),
+    };
     match steps.push(step_by(numbers, form)) {
         Ok(()) => Ok(()),
-        Err(_) => Err(Failure::Bad("no memory left", "room for the steps")),
+        Err(_) => Err(Failure::NoMemory),
     }
 }
 
 // What a text writes. Empty lines at its end say nothing.
-pub(super) fn text_of(
-    heap: Global,
-    text: &str,
-    first: Form,
-    rest: Form,
-) -> Result<Text, Failure<'static>> {
+pub(super) fn text_of(alloc: Global, text: &str, first: Form, rest: Form) -> Result<Text, Failure> {
     let mut lines = text.trim_ascii_end().lines();
-    let Some(words) = lines.next() else {
-        return Err(Failure::Bad("no line", first.expected));
+    let Some(line) = lines.next() else {
+        return Err(Failure::NoLine(first));
     };
-    let first = numbers_of(words, 1, first)?;
-    let mut steps = Vec::new(heap);
+    let first = match numbers_of(line, first) {
+        Ok(numbers) => numbers,
+        Err(flaw) => return Err(Failure::Line(1, flaw, first)),
+    };
+    let mut steps = Vec::new(alloc);
     let mut number = 1usize;
-    for words in lines {
+    for line in lines {
         number = number.saturating_add(1);
-        add_step(&mut steps, words, number, rest)?;
+        add_step(&mut steps, line, number, rest)?;
     }
     Ok(Text { first, steps })
 }

@@ -1,8 +1,7 @@
 // Walks by hand: a start trial, and then step trials, each from the place that was reached.
 use super::failures::Failure;
-use super::numbers::Form;
 use super::places::{Shown, print_place};
-use super::texts::text_of;
+use super::texts::{text_of, trial_below};
 use kinds::{Step, Time};
 use std::io;
 
@@ -13,15 +12,6 @@ const DISCRETE: u8 = 1;
 
 // The most steps of a chain.
 const MOST_STEPS: usize = 65534;
-
-// A line with the number of a trial, of so many.
-fn trial_below(trials: u16) -> Form {
-    Form {
-        wanted: 1,
-        most: trials.saturating_sub(1) as u32,
-        expected: "a line with the number of a trial",
-    }
-}
 
 // Prints what a trial gave.
 fn print_given<K: Time>(
@@ -149,14 +139,14 @@ pub(super) fn walk<K: Time>(
     kind: &K,
     clocks: u8,
     text: &str,
-) -> Result<(), Failure<'static>>
+) -> Result<(), Failure>
 where
     K::Place: Shown,
 {
     let starts = trial_below(kind.start_trials());
     let mut text = text_of(rt.alloc(), text, starts, trial_below(kind.step_trials()))?;
     if text.steps.len() > MOST_STEPS {
-        return Err(Failure::Bad("too many lines", "a walk of at most 65535 lines"));
+        return Err(Failure::TooManyLines);
     }
     let start = text.first[0].min(65535) as u16;
     walk_from(rt, kind, clocks, start, text.steps.as_mut_slice())?;
