@@ -1,5 +1,5 @@
 -- Steps widened from the first on, each by what the newer ones add up to, and one turn of the loop.
-use Rattle.std.proofs.Common.{◌≡◌, ℕ, ◌+◌, ◌-◌, ◌*◌, ◌<◌, ◌≤◌, List, [], ◌∷◌, ◌++◌, map, reverse, length, get_or, take, drop, set, sym, refl, ap, ◌∙◌, add_assoc, mul-le-mul_right, arith}
+use Rattle.std.proofs.Common.{◌≡◌, ℕ, ◌+◌, ◌-◌, ◌<◌, ◌≤◌, List, [], ◌∷◌, ◌++◌, map, reverse, length, get_or, take, drop, set, sym, refl, ap, ◌∙◌, mul-le-mul_right, arith}
 use mathlib.Core.List.{reverse-cons, reverse-append, map-append}
 use native.Mathlib.Nat.{div-zero}
 use lib.Ieee.Nearest.{div_mono}

@@ -3,7 +3,7 @@
 -- The present moment is known by the fractions of the clocks, in parts of a unit. Where a clock leaves
 -- its whole number there may be no part between it and the next clock, so every unit gets one part
 -- more, right after the present moment, and the step waits for that part.
-use Rattle.std.specs.Prelude.{ℕ, suc, ◌+◌, ◌-◌, ◌/◌, min, max, Bool, true, false, cond, List, [], ◌∷◌, map, slice_index}
+use Rattle.std.specs.Prelude.{ℕ, suc, ◌+◌, ◌-◌, ◌/◌, min, max, Bool, cond, List, [], ◌∷◌, slice_index}
 use Rattle.delays.specs.declared.paces.Passing.{Passing}
 use Rattle.delays.specs.declared.paces.Passing.TheVariants.{Still, Leaving, Meeting}
 

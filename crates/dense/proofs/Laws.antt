@@ -1,17 +1,15 @@
 -- The law of kinds of time, for dense time, and what is true of its places.
-use Rattle.std.proofs.Common.{◌≡◌, ℕ, zero, suc, ◌+◌, ◌*◌, ◌<◌, ◌≤◌, Bool, true, false, cond, ◌&&◌, eqb, ltb, List, [], ◌∷◌, length, Some, None, Option, sym, refl, ap, ◌∙◌, subst, arith}
-use Rattle.std.proofs.lemmas.Bool.{ltb-true, ltb-false}
+use Rattle.std.proofs.Common.{◌≡◌, ℕ, zero, suc, ◌+◌, ◌*◌, ◌<◌, ◌≤◌, Bool, true, false, cond, ltb, List, Some, None, Option, sym, refl, ap, ◌∙◌, subst, arith}
+use Rattle.std.proofs.lemmas.Bool.{ltb-true}
 use Rattle.instruction.specs.Sizes.{product}
 use Rattle.judging.specs.Truth.{View, compared}
-use Rattle.kinds.specs.Time.{Meaning, Alike as Likewise, Lawful, Chain, from, more}
+use Rattle.kinds.specs.Time.{Alike as Likewise, Lawful, Chain, from, more}
 use Rattle.tables.specs.Tables.{four as four-bools}
 use Rattle.tables.specs.Settings.{Setting}
-use Rattle.regions.specs.declared.clocks.Clock.{Clock}
 use Rattle.regions.specs.declared.clocks.Clock.TheVariants.{Over, Counted}
 use Rattle.regions.specs.declared.places.Place.{Place}
-use Rattle.regions.specs.Clocks.{at, limit, four_of, trim_all, capped, restarted, hit, Sound, Sounds, Padded}
-use Rattle.regions.specs.Gaps.{Gapless, Alike}
-use Rattle.regions.specs.Regions.{after, tidy, elapsed as elapsing, side_of, rank_of}
+use Rattle.regions.specs.Clocks.{at, limit, four_of, trim_all, capped, restarted, hit, Sound}
+use Rattle.regions.specs.Regions.{tidy, elapsed as elapsing, side_of, rank_of}
 use Rattle.regions.specs.Promise.{Elapsed, Cleared}
 use Rattle.regions.specs.Sameness.{same_place}
 use Rattle.regions.specs.Slots.{slot_of}
@@ -21,7 +19,7 @@ use Rattle.regions.proofs.Fours.{below-four, same-four, over-at}
 use Rattle.regions.proofs.Same.{same-is, same-itself, place-by}
 use Rattle.regions.proofs.Told.{elapse-told, reset-told}
 use Rattle.dense.proofs.Timed.{parts-some, parts-few, delays-each}
-use Rattle.dense.specs.Trials.{only, place, shown, begun, origin, elapsed, moved, values, beginning, passing, entering, starting, stepping, dense, Occurs, Regional}
+use Rattle.dense.specs.Trials.{only, place, shown, begun, origin, elapsed, moved, values, starting, stepping, dense, Occurs, Regional}
 
 -- a condition that gave a place gave just that one
 given : (b : Bool) (p q : Place) → only b p ≡ Some q → q ≡ p

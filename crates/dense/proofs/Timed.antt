@@ -1,5 +1,5 @@
 -- The denominator and the number of delays of a chain.
-use Rattle.std.proofs.Common.{◌≡◌, ℕ, suc, ◌+◌, ◌≤◌, Bool, true, false, cond, eqb, List, [], ◌∷◌, length, Some, None, Option, sym, refl, ap, ◌∙◌, arith}
+use Rattle.std.proofs.Common.{◌≡◌, ℕ, suc, ◌+◌, ◌≤◌, Bool, true, false, cond, eqb, List, [], ◌∷◌, length, Some, None, Option, refl, ap, ◌∙◌, arith}
 use Rattle.delays.specs.declared.paces.Passing.{Passing}
 use Rattle.delays.specs.declared.paces.Passing.TheVariants.{Still, Leaving, Meeting}
 use Rattle.delays.specs.Pace.{wait_of, parts_after, widened, delays_after}
@@ -7,7 +7,7 @@ use Rattle.kinds.specs.Time.{waits}
 use Rattle.regions.specs.declared.places.Place.{Place}
 use Rattle.regions.specs.Clocks.{at}
 use Rattle.regions.specs.Regions.{any_sharp}
-use Rattle.dense.specs.Delays.{Timing, passing_of, advanced, stuck, arriving, trying, timing}
+use Rattle.dense.specs.Delays.{Timing, passing_of, stuck, arriving, trying, timing}
 
 pub length-widened : (D b : ℕ) (ds : List ℕ) → length (widened D b ds) ≡ length ds
 unfolding widened

@@ -1,5 +1,5 @@
 -- The delays of a chain of dense time.
-use Rattle.std.specs.Prelude.{◌≡◌, ℕ, Bool, true, false, cond, not, List, [], ◌∷◌, Some, None, Option, ◌==◌}
+use Rattle.std.specs.Prelude.{ℕ, Bool, cond, not, List, [], ◌∷◌, Some, None, Option, ◌==◌}
 use Rattle.delays.specs.declared.paces.Passing.{Passing}
 use Rattle.delays.specs.declared.paces.Passing.TheVariants.{Still, Leaving, Meeting}
 use Rattle.delays.specs.Pace.{wait_of, parts_after, fractions_after, delays_after}

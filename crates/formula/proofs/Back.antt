@@ -1,18 +1,17 @@
 -- What is accepted is a formula that may stand there.
-use Rattle.std.proofs.Common.{◌≡◌, ℕ, ◌+◌, ◌-◌, ◌<◌, ◌≤◌, max, Bool, true, false, cond, eqb, ltb, leb, List, [], ◌∷◌, ◌++◌, length, get_or, drop, Ok, Err, Result, sym, refl, ap, ◌∙◌, subst, append_assoc, append-nil, arith, length-drop}
+use Rattle.std.proofs.Common.{◌≡◌, ℕ, ◌+◌, ◌-◌, ◌≤◌, Bool, true, cond, ltb, leb, List, [], ◌∷◌, ◌++◌, length, drop, Ok, Err, sym, refl, ap, ◌∙◌, subst, append_assoc, append-nil, arith, length-drop}
 use Rattle.std.proofs.lemmas.Bool.{ltb-true, leb-true, eqb-true}
-use Rattle.instruction.specs.declared.faults.Fault.{Fault}
-use Rattle.instruction.specs.declared.faults.Fault.TheVariants.{UnknownMark, Barred, CutShort, Undeclared, OutOfRange, Waiting}
+use Rattle.instruction.specs.declared.faults.Fault.TheVariants.{Waiting}
 use Rattle.instruction.specs.declared.sections.Section.{Section}
 use Rattle.instruction.specs.declared.instructions.Instruction.{Instruction}
 use Rattle.instruction.specs.declared.instructions.Instruction.TheVariants.{Is, Becomes, Stays, Clock, Always, Not, And, Or}
 use Rattle.formula.specs.Formulas.{Formula, is, becomes, stays, clock, always, not, and, or, written, depth, Allowed, Writes}
-use Rattle.instruction.specs.Reader.{instruction, width, waits, one_more, and_then}
+use Rattle.instruction.specs.Reader.{instruction, width, waits, one_more}
 use Rattle.formula.specs.Reader.{walk}
 use Rattle.formula.specs.Rules.{spell, Held}
 use Rattle.formula.proofs.Walks.{turn}
 use Rattle.instruction.proofs.Inverse.{reads, tested, and_then-ok}
-use Rattle.instruction.specs.Promise.{spelled, Fit, Reads}
+use Rattle.instruction.specs.Promise.{spelled, Fit}
 use Rattle.instruction.proofs.Told.{wide}
 
 counted : (b : Bool) (s : Section) (w at v : ℕ) → cond b (Ok w) (Err (Waiting s at)) ≡ Ok v → (b ≡ true) × (w ≡ v)

@@ -1,15 +1,14 @@
 -- What is refused is formulas that wait, and then an instruction that breaks the rule of the fault.
-use Rattle.std.proofs.Common.{◌≡◌, ℕ, ◌+◌, ◌-◌, ◌<◌, ◌≤◌, Bool, true, false, cond, eqb, ltb, leb, ◌⊎◌, List, [], ◌∷◌, ◌++◌, length, get_or, drop, Ok, Err, Result, sym, refl, ap, ◌∙◌, subst, inl, inr, ⊎_elim, arith, length-drop}
-use Rattle.std.proofs.lemmas.Bool.{ltb-false, leb-false, eqb-false, false≢true}
+use Rattle.std.proofs.Common.{◌≡◌, ℕ, ◌+◌, ◌-◌, ◌≤◌, true, eqb, ltb, leb, List, [], ◌∷◌, ◌++◌, length, drop, Err, sym, refl, ap, ◌∙◌, subst, ⊎_elim, arith, length-drop}
+use Rattle.std.proofs.lemmas.Bool.{ltb-false, leb-false, eqb-false}
 use Rattle.instruction.specs.declared.faults.Fault.{Fault}
-use Rattle.instruction.specs.declared.faults.Fault.TheVariants.{UnknownMark, Barred, CutShort, Undeclared, OutOfRange, Waiting}
-use Rattle.instruction.specs.declared.instructions.Compare.{Compare}
+use Rattle.instruction.specs.declared.faults.Fault.TheVariants.{Waiting}
 use Rattle.instruction.specs.declared.instructions.Compare.TheVariants.{Less, AtMost, Exactly, AtLeast, More}
 use Rattle.instruction.specs.declared.sections.Section.{Section}
 use Rattle.instruction.specs.declared.instructions.Instruction.{Instruction}
 use Rattle.instruction.specs.declared.instructions.Instruction.TheVariants.{Is, Becomes, Stays, Clock, Always, Not, And, Or}
 use Rattle.formula.specs.Formulas.{Formula}
-use Rattle.instruction.specs.Reader.{instruction, width, waits, one_more, and_then}
+use Rattle.instruction.specs.Reader.{instruction, width, waits, one_more}
 use Rattle.formula.specs.Reader.{walk}
 use Rattle.instruction.specs.Rules.{among, leaf_marks, Known, Permitted, Whole, Declared, InRange, Room, Breaks, crowded}
 use Rattle.formula.specs.Rules.{Stops, left_over, breaks, Refused, spell, Held}

@@ -1,15 +1,14 @@
 -- One turn of the scan for a clock's constants, and what it makes of a formula.
-use Rattle.std.proofs.Common.{◌≡◌, ℕ, ◌+◌, ◌-◌, ◌<◌, ◌≤◌, max, Bool, true, false, cond, eqb, List, [], ◌∷◌, ◌++◌, length, get_or, drop, Ok, Err, Result, sym, refl, ap, ◌∙◌, subst, append_assoc, append-nil, arith}
+use Rattle.std.proofs.Common.{◌≡◌, ℕ, ◌-◌, ◌<◌, ◌≤◌, max, List, [], ◌∷◌, ◌++◌, length, get_or, drop, Ok, Err, sym, refl, ap, ◌∙◌, subst, append_assoc, append-nil, arith}
 use Rattle.std.proofs.lemmas.Bool.{lt-ltb, le-leb}
 use Rattle.instruction.specs.declared.faults.Fault.{Fault}
-use Rattle.instruction.specs.declared.instructions.Compare.{Compare}
 use Rattle.instruction.specs.declared.instructions.Compare.TheVariants.{Less, AtMost, Exactly, AtLeast, More}
 use Rattle.instruction.specs.declared.instructions.Instruction.{Instruction}
 use Rattle.instruction.specs.declared.sections.Section.{Section}
 use Rattle.instruction.specs.declared.sections.Section.TheVariants.{Transition}
 use Rattle.formula.specs.Formulas.{Formula, is, becomes, stays, clock, always, not, and, or, written, Allowed, Writes}
 use Rattle.instruction.specs.Reader.{instruction, width}
-use Rattle.formula.specs.Heights.{height, constant_of, or_else, scanned, Heights}
+use Rattle.formula.specs.Heights.{height, constant_of, scanned, Heights}
 
 module _ (ns : List ℕ) (n c : ℕ) where
   skip : (k h : ℕ) (bs : List ℕ) → scanned ns n c k h bs ≡ scanned ns n c 0 h (drop k bs)

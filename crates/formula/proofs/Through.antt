@@ -1,14 +1,11 @@
 -- A formula that may stand there is accepted.
-use Rattle.std.proofs.Common.{◌≡◌, ℕ, ◌+◌, ◌-◌, ◌<◌, ◌≤◌, max, Bool, true, false, cond, eqb, List, [], ◌∷◌, ◌++◌, length, get_or, drop, Ok, Err, Result, sym, refl, ap, ◌∙◌, append_assoc, append-nil, arith}
+use Rattle.std.proofs.Common.{◌≡◌, ℕ, ◌+◌, ◌-◌, ◌≤◌, List, [], ◌∷◌, ◌++◌, length, get_or, Ok, sym, ap, ◌∙◌, append_assoc, append-nil, arith}
 use Rattle.std.proofs.lemmas.Bool.{lt-ltb, le-leb}
-use Rattle.instruction.specs.declared.faults.Fault.{Fault}
-use Rattle.instruction.specs.declared.instructions.Compare.{Compare}
 use Rattle.instruction.specs.declared.instructions.Compare.TheVariants.{Less, AtMost, Exactly, AtLeast, More}
 use Rattle.instruction.specs.declared.sections.Section.{Section}
-use Rattle.instruction.specs.declared.instructions.Instruction.{Instruction}
 use Rattle.formula.specs.Formulas.{Formula, is, becomes, stays, clock, always, not, and, or, written, depth, Allowed, Writes}
-use Rattle.instruction.specs.Marks.{HasNext, HasClocks, next_allowed, clocks_allowed}
-use Rattle.instruction.specs.Reader.{instruction, width, waits, and_then, next_part, clock_part}
+use Rattle.instruction.specs.Marks.{HasNext, HasClocks}
+use Rattle.instruction.specs.Reader.{next_part, clock_part}
 use Rattle.formula.specs.Reader.{walk}
 
 next-is : (s : Section) → HasNext s → (at : ℕ) → next_part s at ≡ Ok tt

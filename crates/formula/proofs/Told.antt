@@ -1,5 +1,5 @@
 -- The laws of acceptance from its answer.
-use Rattle.std.proofs.Common.{◌≡◌, ℕ, List, Ok, Result, sym, ◌∙◌}
+use Rattle.std.proofs.Common.{◌≡◌, ℕ, List, Result, sym, ◌∙◌}
 use Rattle.instruction.specs.declared.faults.Fault.{Fault}
 use Rattle.instruction.specs.declared.sections.Section.{Section}
 use Rattle.formula.specs.Reader.{walk, Accepts}

@@ -1,11 +1,11 @@
 -- One turn of the acceptance loop.
-use Rattle.std.proofs.Common.{◌≡◌, ℕ, ◌+◌, ◌-◌, ◌<◌, ◌≤◌, Bool, true, false, cond, eqb, List, [], ◌∷◌, ◌++◌, length, drop, Ok, Err, Result, sym, refl, ap, ◌∙◌, subst, arith}
+use Rattle.std.proofs.Common.{◌≡◌, ℕ, ◌-◌, ◌<◌, ◌≤◌, List, [], ◌∷◌, length, drop, Ok, Err, refl, ap, ◌∙◌, subst, arith}
 use Rattle.std.proofs.lemmas.Bool.{eq-eqb, ne_eqb}
 use Rattle.instruction.specs.declared.faults.Fault.{Fault}
-use Rattle.instruction.specs.declared.faults.Fault.TheVariants.{UnknownMark, Barred, CutShort, Undeclared, OutOfRange, Waiting}
+use Rattle.instruction.specs.declared.faults.Fault.TheVariants.{Waiting}
 use Rattle.instruction.specs.declared.sections.Section.{Section}
 use Rattle.instruction.specs.declared.instructions.Instruction.{Instruction}
-use Rattle.instruction.specs.Reader.{instruction, width, waits, and_then}
+use Rattle.instruction.specs.Reader.{instruction, width, waits}
 use Rattle.formula.specs.Reader.{walk}
 
 module _ (ns : List ℕ) (n : ℕ) (s : Section) (end : ℕ) where

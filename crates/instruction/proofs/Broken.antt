@@ -1,19 +1,19 @@
 -- An instruction that is refused breaks the rule of its fault and none before it.
-use Rattle.std.proofs.Common.{◌≡◌, ℕ, ◌+◌, ◌-◌, ◌<◌, ◌≤◌, Bool, true, false, cond, ◌||◌, eqb, ltb, leb, ◌⊎◌, List, [], ◌∷◌, ◌++◌, length, get_or, Ok, Err, Result, sym, refl, ap, ◌∙◌, subst, inl, inr, ⊎_elim, arith}
-use Rattle.std.proofs.lemmas.Bool.{ltb-true, ltb-false, leb-true, leb-false, eqb-true, cond_both, both_ways, false≢true}
+use Rattle.std.proofs.Common.{◌≡◌, ℕ, ◌+◌, Bool, true, false, cond, eqb, ltb, leb, ◌⊎◌, List, [], ◌∷◌, length, get_or, Ok, Err, Result, sym, refl, ap, subst, inl, inr, ⊎_elim, arith}
+use Rattle.std.proofs.lemmas.Bool.{ltb-true, ltb-false, leb-false, eqb-true, cond_both, both_ways, false≢true}
 use Rattle.instruction.specs.declared.faults.Fault.{Fault}
 use Rattle.instruction.specs.declared.faults.Refusal.{Refusal}
-use Rattle.instruction.specs.declared.faults.Fault.TheVariants.{UnknownMark, Barred, CutShort, Undeclared, OutOfRange, Waiting}
+use Rattle.instruction.specs.declared.faults.Fault.TheVariants.{UnknownMark, Barred, CutShort, Undeclared, OutOfRange}
 use Rattle.instruction.specs.declared.instructions.Compare.{Compare}
 use Rattle.instruction.specs.declared.instructions.Compare.TheVariants.{Less, AtMost, Exactly, AtLeast, More}
 use Rattle.instruction.specs.declared.sections.Section.{Section}
 use Rattle.instruction.specs.declared.instructions.Instruction.{Instruction}
-use Rattle.instruction.specs.declared.instructions.Instruction.TheVariants.{Is, Becomes, Stays, Clock, Always, Not, And, Or}
-use Rattle.instruction.specs.Marks.{HasNext, HasClocks, next_allowed, clocks_allowed}
-use Rattle.instruction.specs.Reader.{pair, single, clocked, comparison, marked, instruction, and_then, next_part, clock_part}
+use Rattle.instruction.specs.declared.instructions.Instruction.TheVariants.{Is, Becomes, Stays}
+use Rattle.instruction.specs.Marks.{next_allowed, clocks_allowed}
+use Rattle.instruction.specs.Reader.{pair, single, clocked, comparison, instruction, and_then, next_part, clock_part}
 use Rattle.instruction.proofs.Inverse.{next-was, clock-was}
 use Rattle.instruction.specs.Faults.{refusal}
-use Rattle.instruction.specs.Rules.{among, marks, next_marks, clock_marks, variable_marks, value_marks, size, Known, Permitted, Whole, Declared, InRange, Room, Breaks, unknown, barred, short, undeclared, out}
+use Rattle.instruction.specs.Rules.{among, next_marks, clock_marks, variable_marks, value_marks, size, Known, Permitted, Whole, Breaks, unknown, barred, short, undeclared, out}
 
 pub never : {A : Type 0} (y : A) (x : Fault) (G : Type 0) → Ok y ≡ Err x → G
 never y x G e = absurd (let q : ◌≡◌ {A = ℕ} 0 1 = cc in omega arith)

@@ -1,16 +1,16 @@
 -- What an instruction that was read says of the bytes.
-use Rattle.std.proofs.Common.{◌≡◌, ℕ, ◌+◌, ◌-◌, ◌<◌, ◌≤◌, max, Bool, true, false, cond, eqb, ltb, leb, List, [], ◌∷◌, ◌++◌, length, get_or, drop, Ok, Err, Result, sym, refl, ap, ◌∙◌, subst, append_assoc, append-nil, arith}
+use Rattle.std.proofs.Common.{◌≡◌, ℕ, ◌<◌, ◌≤◌, Bool, true, false, cond, eqb, List, [], ◌∷◌, ◌++◌, length, get_or, drop, Ok, Err, Result, refl, subst, arith}
 use Rattle.std.proofs.lemmas.Bool.{ltb-true, leb-true, eqb-true, cond_both}
 use Rattle.instruction.specs.declared.faults.Fault.{Fault}
-use Rattle.instruction.specs.declared.faults.Fault.TheVariants.{UnknownMark, Barred, CutShort, Undeclared, OutOfRange, Waiting}
+use Rattle.instruction.specs.declared.faults.Fault.TheVariants.{Barred}
 use Rattle.instruction.specs.declared.instructions.Compare.{Compare}
 use Rattle.instruction.specs.declared.instructions.Compare.TheVariants.{Less, AtMost, Exactly, AtLeast, More}
 use Rattle.instruction.specs.declared.sections.Section.{Section}
 use Rattle.instruction.specs.declared.instructions.Instruction.{Instruction}
-use Rattle.instruction.specs.declared.instructions.Instruction.TheVariants.{Is, Becomes, Stays, Clock, Always, Not, And, Or}
+use Rattle.instruction.specs.declared.instructions.Instruction.TheVariants.{Is, Becomes, Stays, Always, Not, And, Or}
 use Rattle.instruction.specs.Marks.{HasNext, HasClocks, next_allowed, clocks_allowed, mark}
 use Rattle.instruction.specs.Promise.{spelled, Fit, Reads}
-use Rattle.instruction.specs.Reader.{pair, single, clocked, comparison, marked, instruction, width, and_then, next_part, clock_part}
+use Rattle.instruction.specs.Reader.{pair, single, clocked, comparison, instruction, width, and_then, next_part, clock_part}
 
 pub and_then-ok : {A B : Type 0} (r : Result A Fault) (f : A → Result B Fault) (y : B) → and_then r f ≡ Ok y → (x : A) × (r ≡ Ok x) × (f x ≡ Ok y)
 and_then-ok (Ok x) f y e = (x, refl, e)

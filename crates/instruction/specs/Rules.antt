@@ -1,5 +1,5 @@
 -- The rules that an instruction keeps, in their order.
-use Rattle.std.specs.Prelude.{◌≡◌, ℕ, ◌+◌, ◌-◌, ◌<◌, ◌≤◌, Bool, true, false, cond, ◌||◌, List, [], ◌∷◌, ◌++◌, length, ◌==◌, slice_index}
+use Rattle.std.specs.Prelude.{◌≡◌, ℕ, ◌+◌, ◌<◌, ◌≤◌, Bool, true, false, cond, ◌||◌, List, [], ◌∷◌, length, ◌==◌, slice_index}
 use Rattle.instruction.specs.declared.sections.Section.{Section}
 use Rattle.instruction.specs.declared.faults.Refusal.{Refusal}
 use Rattle.instruction.specs.Faults.{told}

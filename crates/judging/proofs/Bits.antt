@@ -1,5 +1,5 @@
 -- A stack of bits in a word: what a push and a take leave.
-use Rattle.std.proofs.Common.{◌≡◌, ℕ, ◌+◌, ◌-◌, ◌*◌, ◌/◌, ◌%◌, ◌^◌, ◌<◌, ◌≤◌, Bool, true, false, not, ◌&&◌, ◌||◌, eqb, sym, refl, ap, ◌∙◌, mod-eq_of_lt, arith, pow_mono}
+use Rattle.std.proofs.Common.{◌≡◌, ℕ, ◌+◌, ◌*◌, ◌/◌, ◌%◌, ◌^◌, ◌<◌, ◌≤◌, Bool, true, false, sym, ap, ◌∙◌, mod-eq_of_lt, arith, pow_mono}
 use lib.Bits.{bit_or}
 use mir.Val.{bool_byte}
 use Rattle.std.proofs.lemmas.Nat.{or_shifted, mod_low, pow-add}

@@ -1,5 +1,5 @@
 -- What a kind of time means, whatever its places are made of.
-use Rattle.std.specs.Prelude.{◌≡◌, ℕ, suc, ◌+◌, ◌<◌, ◌≤◌, Bool, true, false, cond, List, [], ◌∷◌, length, Some, None, Option}
+use Rattle.std.specs.Prelude.{◌≡◌, ℕ, suc, ◌+◌, ◌<◌, ◌≤◌, Bool, true, cond, List, [], ◌∷◌, length, Some, None, Option}
 
 pub record Meaning (P : Type 0) : Type 0 where
   -- how many valuations, start trials and step trials there are

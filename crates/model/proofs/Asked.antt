@@ -1,16 +1,14 @@
 -- The laws of a question's answer.
-use Rattle.std.proofs.Common.{◌≡◌, ℕ, ◌<◌, ◌≤◌, Bool, true, false, cond, leb, ◌⊎◌, List, length, Ok, Err, Result, sym, refl, ap, ◌∙◌, subst, inl, inr, arith}
-use Rattle.std.proofs.lemmas.Bool.{leb-true, leb-false, le-leb, lt-leb, cond-true, cond-false}
+use Rattle.std.proofs.Common.{◌≡◌, ℕ, ◌<◌, ◌≤◌, leb, List, length, Err, Result, sym, ap, ◌∙◌, inl, inr, arith}
+use Rattle.std.proofs.lemmas.Bool.{le-leb, lt-leb, cond-true, cond-false}
 use Rattle.instruction.specs.declared.faults.Fault.{Fault}
 use Rattle.instruction.specs.declared.faults.Fault.TheVariants.{TooLong}
 use Rattle.instruction.specs.declared.sections.Section.TheVariants.{Question}
-use Rattle.instruction.specs.Faults.{refusal, told}
-use Rattle.formula.specs.Formulas.{Formula, Writes}
-use Rattle.formula.specs.Reader.{walk, Accepts}
-use Rattle.formula.specs.Rules.{Refused}
+use Rattle.instruction.specs.Faults.{refusal}
+use Rattle.formula.specs.Reader.{Accepts}
 use Rattle.instruction.proofs.Inverse.{never-ok}
 use Rattle.formula.proofs.Unique.{unique}
-use Rattle.model.specs.Questions.{questioning, Asks}
+use Rattle.model.specs.Questions.{Asks}
 
 module _ (ns : List ℕ) (n : ℕ) (bs : List ℕ) (r : Result (Unit {0}) Fault) where
   pub asked : length bs ≤ 2000 → Accepts ns n Question (length bs) bs r → Asks ns n bs r

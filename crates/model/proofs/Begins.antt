@@ -1,5 +1,5 @@
 -- Formula by formula, a good beginning grows until a rule is broken or the record ends.
-use Rattle.std.proofs.Common.{◌≡◌, ℕ, ◌+◌, ◌-◌, ◌*◌, ◌<◌, ◌≤◌, List, [], ◌∷◌, ◌++◌, length, drop, replicate, Ok, Err, Result, sym, refl, ap, ◌∙◌, subst, ⊎_elim, append_assoc, append-nil, arith}
+use Rattle.std.proofs.Common.{◌≡◌, ℕ, ◌+◌, ◌-◌, ◌*◌, ◌≤◌, List, [], ◌∷◌, ◌++◌, length, drop, replicate, Ok, Err, sym, refl, ap, ◌∙◌, subst, ⊎_elim, append_assoc, append-nil, arith}
 use Rattle.std.proofs.lemmas.List.{length-append}
 use Rattle.instruction.specs.declared.faults.Fault.{Fault}
 use Rattle.instruction.specs.declared.faults.Fault.TheVariants.{Trailing}
@@ -10,9 +10,9 @@ use Rattle.formula.specs.Formulas.{Formula, written}
 use Rattle.instruction.proofs.Inverse.{and_then-ok, never-ok}
 use Rattle.instruction.proofs.Broken.{and_then-err, never, fault-is}
 use Rattle.model.specs.declared.layout.Span.{Span}
-use Rattle.model.specs.Systems.{System, Sound, Records, Fits, Stand, Row, none, more, order, formulas}
+use Rattle.model.specs.Systems.{System, Sound, Records, Fits, Stand, Row, none, more, order}
 use Rattle.model.specs.Reading.{Layout, cut, resetting, finish, sections, reading}
-use Rattle.model.specs.Faults.{Begun, Unread, Broken, bad_sizes, bad_formula, more_bytes}
+use Rattle.model.specs.Faults.{Begun, Broken, bad_sizes, bad_formula, more_bytes}
 use Rattle.model.proofs.Formulas.{Was, cut-was, cut-refused}
 use Rattle.sizes.specs.Promise.{Sized}
 use Rattle.sizes.specs.Reading.{sizing}

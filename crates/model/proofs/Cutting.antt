@@ -1,5 +1,5 @@
 -- A formula behind its count, as the code cuts it.
-use Rattle.std.proofs.Common.{◌≡◌, ℕ, ◌+◌, ◌-◌, ◌*◌, ◌<◌, ◌≤◌, List, [], ◌∷◌, length, get_or, take, drop, Ok, Err, Result, sym, refl, ap, ◌∙◌, arith}
+use Rattle.std.proofs.Common.{◌≡◌, ℕ, ◌+◌, ◌-◌, ◌*◌, ◌≤◌, List, [], ◌∷◌, length, get_or, take, drop, Ok, Err, ap, arith}
 use Rattle.std.proofs.lemmas.Bool.{le-leb}
 use Rattle.instruction.specs.declared.faults.Fault.{Fault}
 use Rattle.instruction.specs.declared.sections.Section.{Section}

@@ -1,13 +1,12 @@
 -- A formula behind its count: what is accepted, what is refused, and that nothing else is.
-use Rattle.std.proofs.Common.{◌≡◌, ℕ, ◌+◌, ◌-◌, ◌*◌, ◌<◌, ◌≤◌, Bool, true, false, cond, leb, List, [], ◌∷◌, ◌++◌, length, take, drop, Ok, Err, Result, sym, refl, ap, ◌∙◌, subst, ⊎_elim, arith}
+use Rattle.std.proofs.Common.{◌≡◌, ℕ, ◌+◌, ◌-◌, ◌*◌, ◌≤◌, Bool, true, false, cond, leb, List, [], ◌∷◌, ◌++◌, length, take, drop, Ok, Err, sym, refl, ap, ◌∙◌, ⊎_elim, arith}
 use Rattle.std.proofs.lemmas.List.{take_at, drop_at, take-append-drop, length-append, length-drop, length-take-le}
 use Rattle.std.proofs.lemmas.Bool.{leb-true, leb-false, le-leb}
 use Rattle.instruction.specs.declared.faults.Fault.{Fault}
 use Rattle.instruction.specs.declared.faults.Fault.TheVariants.{Ended, TooLong}
-use Rattle.instruction.specs.declared.faults.Refusal.{Refusal}
 use Rattle.instruction.specs.declared.sections.Section.{Section}
-use Rattle.instruction.specs.Faults.{told, refusal}
-use Rattle.formula.specs.Formulas.{Formula, written, Writes}
+use Rattle.instruction.specs.Faults.{refusal}
+use Rattle.formula.specs.Formulas.{Formula, written}
 use Rattle.instruction.specs.Reader.{and_then}
 use Rattle.formula.specs.Reader.{walk}
 use Rattle.instruction.proofs.Inverse.{tested, and_then-ok, never-ok}

@@ -2,7 +2,6 @@
 use Rattle.std.proofs.Common.{◌≡◌, ℕ, ◌+◌, List, length, drop, Ok, Err, Result, sym, ap, ◌∙◌, arith}
 use Rattle.instruction.specs.declared.faults.Fault.{Fault}
 use Rattle.sizes.specs.Reading.{sizing}
-use Rattle.model.specs.Systems.{System, Sound, Records}
 use Rattle.model.specs.Reading.{Layout, sections, reading}
 use Rattle.model.specs.Promise.{Reads, laid}
 use Rattle.model.proofs.Begins.{reading-was, reading-refused}

@@ -1,5 +1,5 @@
 -- The writing of a sound system is accepted, and what is handed back is that system's layout.
-use Rattle.std.proofs.Common.{◌≡◌, ℕ, ◌+◌, ◌-◌, ◌*◌, ◌<◌, ◌≤◌, List, [], ◌∷◌, ◌++◌, length, drop, replicate, Ok, Err, Result, sym, refl, ap, ◌∙◌, subst, append_assoc, append-nil, arith}
+use Rattle.std.proofs.Common.{◌≡◌, ℕ, ◌+◌, List, [], ◌∷◌, ◌++◌, length, drop, replicate, Ok, Result, sym, refl, ap, ◌∙◌, append_assoc, append-nil, arith}
 use Rattle.std.proofs.lemmas.List.{length-append}
 use Rattle.instruction.specs.declared.faults.Fault.{Fault}
 use Rattle.instruction.specs.declared.sections.Section.{Section}
@@ -7,8 +7,8 @@ use Rattle.instruction.specs.declared.sections.Section.TheVariants.{Clocks, Star
 use Rattle.formula.specs.Formulas.{Formula, written}
 use Rattle.instruction.specs.Reader.{and_then}
 use Rattle.model.specs.declared.layout.Span.{Span}
-use Rattle.model.specs.Systems.{System, Sound, Records, Fits, Stand, Row, none, more, order, formulas}
-use Rattle.model.specs.Reading.{Layout, span, cut, resetting, finish, sections, reading}
+use Rattle.model.specs.Systems.{System, Sound, Records, Stand, Row, none, more}
+use Rattle.model.specs.Reading.{Layout, span, cut, resetting, finish, reading}
 use Rattle.model.specs.Promise.{spans, past, laid}
 use Rattle.model.proofs.Formulas.{cut-through}
 use Rattle.sizes.specs.Reading.{sizing}

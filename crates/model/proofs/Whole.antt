@@ -1,6 +1,5 @@
 -- All sections from their parts, as the code has them.
-use Rattle.std.proofs.Common.{◌≡◌, ℕ, ◌-◌, ◌<◌, List, [], ◌∷◌, length, Ok, Err, Result, sym, refl, ap, ◌∙◌, arith}
-use Rattle.instruction.specs.declared.faults.Fault.{Fault}
+use Rattle.std.proofs.Common.{◌≡◌, ℕ, ◌-◌, ◌<◌, List, [], ◌∷◌, length, Ok, Err, sym, refl, arith}
 use Rattle.instruction.specs.declared.faults.Fault.TheVariants.{Trailing}
 use Rattle.instruction.specs.declared.sections.Section.TheVariants.{Start, Invariant, Transition, Urgent}
 use Rattle.model.specs.declared.layout.Span.{Span}

@@ -1,5 +1,5 @@
 -- What a refusal of a record says: the rule that is broken, where, and what stands before it.
-use Rattle.std.specs.Prelude.{◌≡◌, ℕ, ◌+◌, ◌-◌, ◌*◌, ◌<◌, ◌≤◌, List, [], ◌∷◌, ◌++◌, length}
+use Rattle.std.specs.Prelude.{◌≡◌, ℕ, ◌+◌, ◌-◌, ◌*◌, ◌<◌, ◌≤◌, List, ◌∷◌, ◌++◌, length}
 use Rattle.instruction.specs.declared.faults.Refusal.{Refusal}
 use Rattle.instruction.specs.declared.sections.Section.{Section}
 use Rattle.instruction.specs.declared.sections.Section.TheVariants.{Urgent}

@@ -1,5 +1,5 @@
 -- The part of a record that holds a formula.
-use Rattle.std.specs.Prelude.{ℕ, Bool, true, false, cond, List, take, drop, Some, None, Option, nat_lt, slice_index_or}
+use Rattle.std.specs.Prelude.{ℕ, cond, List, take, drop, Some, None, Option, nat_lt, slice_index_or}
 use Rattle.model.specs.declared.layout.Span.{Span}
 use Rattle.model.specs.declared.layout.Model.{Model}
 use Rattle.model.specs.declared.layout.Role.{Role}

@@ -1,17 +1,15 @@
 -- Step by step, what is left of a run leads on exactly when the whole does.
-use Rattle.std.proofs.Common.{◌≡◌, ℕ, ◌+◌, ◌-◌, ◌*◌, ◌<◌, ◌≤◌, Bool, true, false, cond, ◌&&◌, ◌||◌, eqb, ltb, leb, ◌⊎◌, List, [], ◌∷◌, length, get_or, drop, Some, None, Ok, Err, Result, sym, refl, ap, ◌∙◌, subst, inl, inr, arith}
+use Rattle.std.proofs.Common.{◌≡◌, ℕ, ◌+◌, ◌*◌, ◌<◌, ◌≤◌, Bool, true, false, cond, ◌&&◌, ◌||◌, eqb, ltb, ◌⊎◌, List, [], ◌∷◌, length, get_or, drop, Ok, Err, Result, sym, refl, ap, ◌∙◌, subst, inl, inr, arith}
 use Rattle.std.proofs.lemmas.List.{at_drop_more, at_drop_all, drop_more, drop_all}
-use Rattle.std.proofs.lemmas.Bool.{both_ways, and_parts, or_cases, ltb-true, eqb-true, false≢true}
+use Rattle.std.proofs.lemmas.Bool.{and_parts, or_cases, ltb-true, eqb-true, false≢true}
 use Rattle.instruction.specs.declared.faults.Fault.{Fault}
 use Rattle.instruction.specs.declared.faults.Fault.TheVariants.{RunNumbers}
 use Rattle.judging.specs.Truth.{View}
-use Rattle.runs.specs.declared.reached.Reached.{Reached}
 use Rattle.kinds.specs.declared.steps.Step.{Step}
 use Rattle.runs.specs.Checks.{fine, stepping}
 use Rattle.runs.specs.Instants.{Tells}
 use Rattle.tables.specs.Tables.{Table}
 use Rattle.runs.specs.Runs.{State, OneStep, waits, moves, Run, stop, on, Leads, now, view}
-use Rattle.runs.specs.Steps.{state_of, Next}
 
 -- four clocks after i steps
 abbrev pub Small : ℕ → List ℕ → Type 0

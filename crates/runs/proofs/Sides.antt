@@ -1,8 +1,6 @@
 -- The law of readings for numbers of parts.
-use Rattle.std.proofs.Common.{◌≡◌, ℕ, ◌*◌, ◌<◌, ◌≤◌, mul-le-mul_right, mul-lt-mul_of_pos_right, arith}
+use Rattle.std.proofs.Common.{ℕ, ◌*◌, ◌<◌, ◌≤◌, mul-le-mul_right, mul-lt-mul_of_pos_right, arith}
 use Rattle.std.proofs.lemmas.Bool.Decides.{nat_tests}
-use Rattle.judging.specs.declared.sides.Side.{Side}
-use Rattle.judging.specs.declared.sides.Side.TheVariants.{Below, At, Above}
 use Rattle.judging.specs.Truth.{compared, Ordered}
 
 pub ordered : (D : ℕ) (x : ℕ → ℕ) → 1 ≤ D → Ordered (λ c j. compared (x c) (j * D))

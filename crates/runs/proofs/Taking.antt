@@ -1,21 +1,20 @@
 -- A step is taken exactly when its tests pass.
-use Rattle.std.proofs.Common.{◌≡◌, ℕ, ◌+◌, ◌-◌, ◌*◌, ◌<◌, ◌≤◌, Bool, true, false, cond, List, [], ◌∷◌, get_or, Some, None, Option, sym, refl, ap, ◌∙◌, subst, arith}
+use Rattle.std.proofs.Common.{◌≡◌, ℕ, ◌+◌, ◌*◌, ◌<◌, ◌≤◌, true, false, cond, List, get_or, Some, None, sym, ap, ◌∙◌, subst, arith}
 use Rattle.std.proofs.lemmas.Bool.{both_ways}
 use Rattle.instruction.specs.Counts.{value_counts}
 use Rattle.instruction.specs.Sizes.{product}
-use Rattle.judging.specs.declared.sides.Side.{Side}
 use Rattle.judging.specs.Truth.{compared}
 use Rattle.judging.specs.Judging.{seen}
 use Rattle.model.specs.declared.layout.Model.{Model}
-use Rattle.model.specs.declared.layout.Role.TheVariants.{Reset, Start, Invariant, Transition, Urgent}
+use Rattle.model.specs.declared.layout.Role.TheVariants.{Reset, Transition}
 use Rattle.valuations.specs.Radix.{padded}
 use Rattle.runs.specs.declared.reached.Reached.{Reached}
 use Rattle.kinds.specs.declared.steps.Step.{Step}
 use Rattle.tables.specs.Tables.{Table}
-use Rattle.runs.specs.Runs.{State, four_of, view, now, later, finer, moved, clock, Elapses, Moves, OneStep, waits, moves}
+use Rattle.runs.specs.Runs.{State, four_of, view, now, later, finer, moved, Elapses, Moves, OneStep, waits, moves}
 use Rattle.runs.specs.Steps.{state_of, Next}
 use Rattle.tables.specs.Tables.{says_of, table_in, lasting}
-use Rattle.runs.specs.Instants.{sides_at, Depends, Always, Tells}
+use Rattle.runs.specs.Instants.{sides_at, Depends, Always}
 use Rattle.runs.proofs.Four.{at-four}
 
 module _ (T : Table) (D : ℕ) (s : State) (p : Step) where

@@ -1,5 +1,5 @@
 -- What is promised of the run check.
-use Rattle.std.specs.Prelude.{◌≡◌, ℕ, ◌+◌, ◌<◌, ◌≤◌, Bool, true, false, cond, ◌&&◌, ◌||◌, List, [], ◌∷◌, length, Ok, Err, Result, ◌==◌, nat_le, nat_lt}
+use Rattle.std.specs.Prelude.{◌≡◌, ℕ, ◌+◌, Bool, cond, ◌&&◌, ◌||◌, List, [], ◌∷◌, length, Ok, Err, Result, ◌==◌, nat_le, nat_lt}
 use Rattle.instruction.specs.declared.faults.Fault.{Fault}
 use Rattle.instruction.specs.declared.faults.Fault.TheVariants.{RunNumbers}
 use Rattle.instruction.specs.declared.sections.Section.TheVariants.{Question}

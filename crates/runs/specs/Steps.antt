@@ -1,5 +1,5 @@
 -- What one step of the check says of a state.
-use Rattle.std.specs.Prelude.{◌≡◌, ℕ, List, Some, None, Option}
+use Rattle.std.specs.Prelude.{◌≡◌, ℕ, Some, None, Option}
 use Rattle.runs.specs.declared.reached.Reached.{Reached}
 use Rattle.kinds.specs.declared.steps.Step.{Step}
 use Rattle.tables.specs.Tables.{Table}

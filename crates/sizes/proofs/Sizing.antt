@@ -1,5 +1,5 @@
 -- Sizes: what is accepted, what is refused, and that nothing else is.
-use Rattle.std.proofs.Common.{◌≡◌, ℕ, ◌+◌, ◌-◌, ◌*◌, ◌<◌, ◌≤◌, Bool, true, false, cond, ◌&&◌, leb, ◌⊎◌, List, [], ◌∷◌, ◌++◌, length, take, drop, Ok, Err, Result, sym, refl, ap, ◌∙◌, subst, inl, inr, ⊎_elim, append_assoc, append-nil, arith}
+use Rattle.std.proofs.Common.{◌≡◌, ℕ, ◌+◌, ◌-◌, ◌*◌, ◌<◌, ◌≤◌, Bool, true, false, cond, ◌&&◌, leb, List, [], ◌∷◌, ◌++◌, length, drop, Ok, Err, Result, sym, refl, ap, ◌∙◌, subst, ⊎_elim, append_assoc, append-nil, arith}
 use Rattle.std.proofs.lemmas.List.{drop_at, length-append}
 use Rattle.std.proofs.lemmas.Bool.{leb-true, leb-false, le-leb, and_parts, and_from, both_ways}
 use Rattle.instruction.specs.declared.faults.Fault.{Fault}
@@ -7,8 +7,7 @@ use Rattle.instruction.specs.declared.faults.Fault.TheVariants.{Ended, TooManyVa
 use Rattle.instruction.specs.declared.faults.Refusal.{Refusal}
 use Rattle.instruction.specs.declared.sections.Section.TheVariants.{Variables, Clocks}
 use Rattle.instruction.specs.Faults.{told, refusal}
-use Rattle.instruction.specs.Reader.{and_then}
-use Rattle.instruction.specs.Sizes.{product, ranged}
+use Rattle.instruction.specs.Sizes.{product}
 use Rattle.instruction.proofs.Inverse.{tested, and_then-ok, never-ok}
 use Rattle.instruction.proofs.Broken.{untested, and_then-err, never, fault-is}
 use Rattle.sizes.specs.Promise.{Countable, Sized, Measures}

@@ -1,11 +1,10 @@
 -- One turn of the loop over the numbers of values.
-use Rattle.std.proofs.Common.{◌≡◌, ℕ, ◌+◌, ◌-◌, ◌*◌, ◌<◌, ◌≤◌, Bool, true, false, cond, List, [], ◌∷◌, ◌++◌, length, get_or, take, drop, set, Ok, Err, Result, sym, refl, ap, ◌∙◌, subst, arith}
+use Rattle.std.proofs.Common.{◌≡◌, ℕ, ◌+◌, ◌-◌, ◌<◌, ◌≤◌, List, [], ◌∷◌, ◌++◌, length, get_or, take, drop, set, Ok, Err, sym, refl, ap, ◌∙◌, subst, arith}
 use Rattle.std.proofs.lemmas.List.{take_more_set}
 use Rattle.std.proofs.lemmas.Bool.{le-leb}
 use Rattle.instruction.specs.declared.faults.Fault.{Fault}
 use Rattle.instruction.specs.declared.faults.Fault.TheVariants.{Ended}
 use Rattle.instruction.specs.declared.sections.Section.TheVariants.{Variables}
-use Rattle.instruction.specs.Reader.{and_then}
 use Rattle.sizes.specs.Reading.{counted, counting, variables}
 
 module _ (end : ℕ) where

@@ -1,5 +1,5 @@
 -- Sizes, read from the left: the first fault counts.
-use Rattle.std.specs.Prelude.{ℕ, ◌+◌, ◌-◌, ◌*◌, Bool, true, false, cond, ◌&&◌, List, [], ◌∷◌, ◌++◌, length, drop, Ok, Err, Result, nat_le}
+use Rattle.std.specs.Prelude.{ℕ, ◌+◌, ◌-◌, ◌*◌, cond, ◌&&◌, List, [], ◌∷◌, ◌++◌, length, drop, Ok, Err, Result, nat_le}
 use Rattle.instruction.specs.declared.faults.Fault.{Fault}
 use Rattle.instruction.specs.declared.faults.Fault.TheVariants.{Ended, TooManyVariables, ValueCount, Product, TooManyClocks}
 use Rattle.instruction.specs.declared.sections.Section.TheVariants.{Variables, Clocks}

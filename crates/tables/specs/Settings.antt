@@ -1,5 +1,5 @@
 -- What a kind of time is made of: a table, its clocks and their ceilings.
-use Rattle.std.specs.Prelude.{ℕ, List, [], ◌∷◌, length}
+use Rattle.std.specs.Prelude.{ℕ, List}
 use Rattle.model.specs.declared.layout.Model.{Model}
 use Rattle.tables.specs.Tables.{Table, table_in}
 

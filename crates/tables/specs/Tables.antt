@@ -1,5 +1,5 @@
 -- What a table's formulas say: of a system by their trees, of a record by its bytes.
-use Rattle.std.specs.Prelude.{ℕ, Bool, true, false, List, [], ◌∷◌, take, drop, Some, None, Option}
+use Rattle.std.specs.Prelude.{ℕ, Bool, false, List, [], ◌∷◌, take, drop, Some, None, Option}
 use Rattle.instruction.specs.Counts.{value_counts}
 use Rattle.formula.specs.Formulas.{Formula}
 use Rattle.judging.specs.Truth.{View, holds}

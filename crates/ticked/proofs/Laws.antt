@@ -1,16 +1,16 @@
 -- The law of kinds of time, for ticked time.
-use Rattle.std.proofs.Common.{◌≡◌, ℕ, zero, suc, ◌+◌, ◌*◌, ◌<◌, ◌≤◌, Bool, true, false, cond, ◌&&◌, eqb, ltb, List, [], ◌∷◌, length, Some, None, Option, sym, refl, ap, ◌∙◌, subst, arith}
-use Rattle.std.proofs.lemmas.Bool.{ltb-true, ltb-false}
+use Rattle.std.proofs.Common.{◌≡◌, ℕ, zero, suc, ◌+◌, ◌*◌, ◌<◌, ◌≤◌, Bool, true, false, cond, ltb, List, Some, None, Option, sym, refl, ap, ◌∙◌, subst, arith}
+use Rattle.std.proofs.lemmas.Bool.{ltb-true}
 use Rattle.std.proofs.lemmas.List.{length-map}
 use Rattle.instruction.specs.Sizes.{product}
 use Rattle.judging.specs.Truth.{View, compared}
-use Rattle.kinds.specs.Time.{Meaning, Alike, Lawful, Chain, from, more}
+use Rattle.kinds.specs.Time.{Alike, Lawful, Chain, from, more}
 use Rattle.tables.specs.Settings.{Setting}
 use Rattle.ticked.specs.declared.places.Ticks.{Ticks}
 use Rattle.ticked.specs.declared.places.Ticks.TheVariants.{Over, At}
 use Rattle.ticked.specs.declared.places.Place.{Place}
 use Rattle.ticked.specs.Ticks.{at, limit, four_of, side_of, begun, later, cleared, same_place, slot_of, Under}
-use Rattle.ticked.specs.Trials.{units_of, only, origin, elapsed, moved, shown, values, beginning, passing, entering, starting, stepping, ticked, Occurs, Ticking}
+use Rattle.ticked.specs.Trials.{units_of, only, origin, elapsed, moved, shown, values, starting, stepping, ticked, Occurs, Ticking}
 use Rattle.ticked.proofs.Sameness.{same-is, same-itself}
 
 -- a condition that gave a place gave just that one

@@ -1,5 +1,5 @@
 -- A discrete step: the clocks as the code has them are those of the definition.
-use Rattle.std.proofs.Common.{◌≡◌, ℕ, suc, ◌<◌, Bool, true, false, cond, ◌&&◌, List, [], ◌∷◌, Some, None, Option, sym, refl, ap, ◌∙◌, arith}
+use Rattle.std.proofs.Common.{◌≡◌, ℕ, suc, ◌<◌, Bool, true, false, cond, List, Some, None, Option, sym, ap, ◌∙◌}
 use Rattle.std.proofs.lemmas.Bool.{and_right, and_from, lt-ltb}
 use Rattle.instruction.specs.Sizes.{product}
 use Rattle.judging.specs.Judging.{seen}

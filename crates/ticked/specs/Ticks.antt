@@ -1,5 +1,5 @@
 -- Clocks of ticked places.
-use Rattle.std.specs.Prelude.{◌≡◌, ℕ, zero, suc, ◌+◌, ◌*◌, ◌/◌, ◌<◌, ◌≤◌, Bool, true, false, cond, ◌&&◌, List, [], ◌∷◌, ◌==◌, nat_lt, slice_index, slice_index_or}
+use Rattle.std.specs.Prelude.{ℕ, suc, ◌/◌, ◌≤◌, Bool, true, false, cond, ◌&&◌, List, [], ◌∷◌, ◌==◌, nat_lt, slice_index, slice_index_or}
 use Rattle.kinds.specs.Slots.{mixing}
 use Rattle.judging.specs.declared.sides.Side.{Side}
 use Rattle.judging.specs.declared.sides.Side.TheVariants.{Below, At as Meets, Above}

@@ -1,5 +1,5 @@
 -- The trials of ticked time.
-use Rattle.std.specs.Prelude.{◌≡◌, ℕ, zero, suc, ◌+◌, ◌*◌, ◌<◌, ◌≤◌, Bool, true, false, cond, not, ◌&&◌, List, [], ◌∷◌, map, length, Some, None, Option, ◌==◌, nat_lt}
+use Rattle.std.specs.Prelude.{◌≡◌, ℕ, zero, suc, ◌+◌, ◌*◌, ◌<◌, ◌≤◌, Bool, true, false, cond, not, ◌&&◌, List, map, length, Some, None, Option, ◌==◌, nat_lt}
 use Rattle.instruction.specs.Sizes.{product}
 use Rattle.judging.specs.Truth.{View, compared}
 use Rattle.judging.specs.Judging.{seen}

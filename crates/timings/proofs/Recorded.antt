@@ -7,7 +7,7 @@ use Rattle.model.specs.declared.layout.Model.{Model}
 use Rattle.model.specs.Promise.{laid}
 use Rattle.model.specs.Reading.{layout}
 use Rattle.model.specs.Systems.{System, Sound, Records}
-use Rattle.tables.specs.Settings.{Setting, setting_in}
+use Rattle.tables.specs.Settings.{setting_in}
 use Rattle.tables.specs.Tables.{table_in, table_of}
 use Rattle.tables.proofs.Systems.{in-system}
 use Rattle.ticked.specs.Trials.{ticked}

@@ -1,5 +1,5 @@
 -- Places are enough: a chain reaches a question exactly when a run does.
-use Rattle.std.specs.Prelude.{◌≡◌, ℕ, ◌*◌, ◌<◌, ◌≤◌, Bool, true, List, [], ◌∷◌, length}
+use Rattle.std.specs.Prelude.{◌≡◌, ℕ, ◌*◌, ◌≤◌, Bool, List, [], ◌∷◌, length}
 use Rattle.instruction.specs.declared.sections.Section.TheVariants.{Question}
 use Rattle.formula.specs.Formulas.{Formula, Writes}
 use Rattle.judging.specs.declared.sides.Side.TheVariants.{Above}
@@ -13,7 +13,7 @@ use Rattle.model.specs.Reading.{layout}
 use Rattle.model.specs.Systems.{System, Sound, Records}
 use Rattle.kinds.specs.declared.steps.Step.{Step}
 use Rattle.runs.specs.Runs.{Reaches}
-use Rattle.tables.specs.Settings.{Setting, setting_in}
+use Rattle.tables.specs.Settings.{setting_in}
 use Rattle.tables.specs.Tables.{Table, table_of}
 use Rattle.ticked.specs.Trials.{ticked}
 use Rattle.timings.specs.Through.{Runs, DenseRegion, TickedRegion}

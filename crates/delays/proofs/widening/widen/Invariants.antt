@@ -1,5 +1,5 @@
 -- The steps behind are as widened, the others as on entry, and `before` is what those behind add up to.
-use Rattle.std.proofs.Common.{◌≡◌, ◌+◌, ◌*◌, ◌≤◌, ◌++◌, length, take, drop}
+use Rattle.std.proofs.Common.{◌≡◌, ◌+◌, ◌*◌, ◌≤◌, length, take, drop}
 use Rattle.delays.proofs.Stretching.{total, wide}
 use Rattle.delays.proofs.widening.widen.Given as goal
 

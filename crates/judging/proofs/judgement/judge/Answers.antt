@@ -1,4 +1,4 @@
-use Rattle.std.proofs.Common.{◌≡◌, ℕ, ◌<◌, ◌≤◌, List, length, sym, refl, ap, ◌∙◌, arith, length-drop, true-eqb, false-eqb}
+use Rattle.std.proofs.Common.{◌<◌, ◌≤◌, length, sym, refl, ◌∙◌, arith, length-drop, true-eqb, false-eqb}
 use Rattle.std.proofs.lemmas.List.{take_rest}
 use Rattle.instruction.specs.Reader.{width}
 use Rattle.judging.proofs.Judged.{turn, no-op, ended}

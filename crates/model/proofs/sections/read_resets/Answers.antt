@@ -1,8 +1,7 @@
-use Rattle.std.proofs.Common.{◌≡◌, ℕ, ◌+◌, ◌-◌, ◌<◌, ◌≤◌, List, length, take, Ok, sym, refl, ap, ◌∙◌, arith, rules}
+use Rattle.std.proofs.Common.{◌≡◌, ℕ, ◌-◌, take, Ok, sym, ap, ◌∙◌, arith}
 use Rattle.std.proofs.lemmas.Result.{err_from_is_err_and}
 use Rattle.std.proofs.lemmas.List.{length-set}
 use Rattle.instruction.specs.Counts.{value_counts}
-use Rattle.model.specs.Cuts.{gathered}
 use Rattle.model.proofs.Turns.{reset-again, reset-refused, reset-done}
 use Rattle.model.proofs.sections.read_resets.Goals as goal
 

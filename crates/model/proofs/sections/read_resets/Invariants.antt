@@ -1,4 +1,4 @@
-use Rattle.std.proofs.Common.{◌≡◌, ◌-◌, ◌≤◌, [], length, take}
+use Rattle.std.proofs.Common.{◌≡◌, ◌-◌, [], length, take}
 use Rattle.instruction.specs.Counts.{value_counts}
 use Rattle.model.specs.Reading.{resetting}
 use Rattle.model.proofs.sections.read_resets.Given as goal

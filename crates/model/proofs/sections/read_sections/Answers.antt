@@ -1,4 +1,4 @@
-use Rattle.std.proofs.Common.{◌≡◌, ℕ, ◌-◌, ◌<◌, List, length, Err, sym, refl, ap, ◌∙◌, arith, true-eqb, false-eqb}
+use Rattle.std.proofs.Common.{ℕ, ◌<◌, List, length, Err, sym, ap, ◌∙◌, arith, true-eqb, false-eqb}
 use Rattle.instruction.specs.declared.faults.Fault.TheVariants.{Trailing}
 use Rattle.model.proofs.Whole.{sections-are, finish-done, finish-more}
 use Rattle.model.proofs.sections.read_sections.Goals as goal

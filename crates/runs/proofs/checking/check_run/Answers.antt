@@ -1,6 +1,4 @@
-use Rattle.std.proofs.Common.{◌≡◌, true, false, sym, ◌∙◌, subst}
 use Rattle.std.proofs.lemmas.Result.{err_from_is_err_and}
-use Rattle.runs.specs.Instants.{Tells}
 use Rattle.runs.proofs.Checked.{bad-question, bad-numbers, bad-steps, no_start, led}
 use Rattle.runs.proofs.checking.check_run.Goals as goal
 

@@ -1,4 +1,4 @@
-use Rattle.std.proofs.Common.{◌≡◌, sym, ◌∙◌}
+use Rattle.std.proofs.Common.{sym, ◌∙◌}
 use Rattle.runs.proofs.Following.{fine_more, not-fine, all-fine}
 use Rattle.runs.proofs.checking.check_steps.Goals as goal
 

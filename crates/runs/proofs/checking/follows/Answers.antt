@@ -1,11 +1,10 @@
-use Rattle.std.proofs.Common.{◌≡◌, ℕ, ◌+◌, ◌*◌, ◌<◌, ◌≤◌, true, length, get_or, drop, sym, refl, ap, ◌∙◌, arith}
+use Rattle.std.proofs.Common.{◌<◌, get_or, sym, refl, ◌∙◌, arith}
 use Rattle.instruction.specs.Counts.{value_counts}
 use Rattle.instruction.specs.Sizes.{product}
-use Rattle.runs.specs.Checks.{fine, stepping}
 use Rattle.runs.specs.Runs.{Leads, first, OneStep}
 use Rattle.runs.specs.Steps.{state_of}
 use Rattle.tables.specs.Tables.{table_in, asked}
-use Rattle.runs.proofs.Following.{Small, stay-small, fine_more, each-fine, ahead, behind, nowhere, arrived}
+use Rattle.runs.proofs.Following.{stay-small, fine_more, each-fine, ahead, behind, nowhere, arrived}
 use Rattle.runs.proofs.checking.follows.Goals as goal
 
 pub next_state-requires : goal.next_state-requires

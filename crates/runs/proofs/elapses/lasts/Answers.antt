@@ -1,4 +1,4 @@
-use Rattle.std.proofs.Common.{◌≡◌, ℕ, ◌+◌, ◌-◌, ◌*◌, ◌<◌, ◌≤◌, Bool, true, false, List, length, get_or, sym, refl, ap, ◌∙◌, arith}
+use Rattle.std.proofs.Common.{◌≡◌, ℕ, ◌+◌, ◌≤◌, Bool, length, get_or, sym, ap, ◌∙◌, arith}
 use Rattle.judging.specs.declared.sides.Side.{Side}
 use Rattle.tables.specs.Tables.{lasting}
 use Rattle.runs.specs.Instants.{Always, Depends}

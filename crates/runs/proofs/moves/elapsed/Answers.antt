@@ -1,12 +1,12 @@
-use Rattle.std.proofs.Common.{◌≡◌, ℕ, ◌+◌, Bool, true, false, List, get_or, sym, refl, ap, ◌∙◌, subst}
+use Rattle.std.proofs.Common.{◌+◌, get_or, sym, ap, ◌∙◌, subst}
 use Rattle.instruction.specs.Counts.{value_counts}
 use Rattle.judging.specs.Judging.{seen}
 use Rattle.model.specs.declared.layout.Role.TheVariants.{Urgent}
 use Rattle.valuations.specs.Radix.{padded}
-use Rattle.runs.specs.Runs.{State, four_of, later}
+use Rattle.runs.specs.Runs.{four_of}
 use Rattle.runs.specs.Steps.{state_of}
 use Rattle.tables.specs.Tables.{table_in, says_of, lasting}
-use Rattle.runs.specs.Instants.{sides_at, Always, Depends, Tells}
+use Rattle.runs.specs.Instants.{sides_at, Always, Depends}
 use Rattle.std.proofs.lemmas.Bool.{both_ways}
 use Rattle.runs.proofs.Lasting.{depends}
 use Rattle.runs.proofs.Taking.{elsewhere, urgent, broken-off, waited, to-run, from-run}

@@ -1,4 +1,4 @@
-use Rattle.std.proofs.Common.{◌≡◌, sym, ◌∙◌}
+use Rattle.std.proofs.Common.{sym, ◌∙◌}
 use Rattle.runs.specs.Steps.{state_of}
 use Rattle.tables.specs.Tables.{table_in}
 use Rattle.runs.proofs.Taking.{barred, invalid, jumps, allowed-is, clocks-are, valid-is}

@@ -1,4 +1,4 @@
-use Rattle.std.proofs.Common.{ℕ, ◌≤◌, arith}
+use Rattle.std.proofs.Common.{arith}
 use Rattle.runs.proofs.Four.{sooner}
 use Rattle.runs.proofs.waits.soonest.Goals as goal
 

@@ -1,5 +1,5 @@
 use Rattle.tables.specs.Settings.{setting_in}
-use Rattle.ticked.proofs.Filled.{delayed, too_many}
+use Rattle.ticked.proofs.Filled.{delayed}
 use Rattle.ticked.proofs.kind.TickedTime.delays.Goals as goal
 
 pub returns : goal.returns
