@@ -1,4 +1,4 @@
--- four_of clocks, as a list and by index.
+-- Four clocks, as a list and by index.
 use Rattle.std.proofs.Common.{◌≡◌, ℕ, zero, suc, ◌<◌, List, [], ◌∷◌, length, sym, refl, arith}
 use mathlib.Core.Path.{fun_ext}
 use Rattle.regions.specs.declared.clocks.Clock.{Clock}

@@ -1,4 +1,4 @@
--- four_of clocks as a list and as a function, and the next whole number of one.
+-- Four clocks as a list and as a function, and the next whole number of one.
 use Rattle.std.proofs.Common.{◌≡◌, ℕ, ◌+◌, ◌-◌, ◌*◌, ◌/◌, ◌%◌, ◌<◌, ◌≤◌, Bool, get_or, sym, refl, ap, ◌∙◌, mod-lt, mul_comm, add-mul, arith}
 use native.Mathlib.Nat.{div-add-mod}
 use Rattle.judging.specs.declared.sides.Side.{Side}
