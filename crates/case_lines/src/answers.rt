@@ -1,34 +1,60 @@
 // Answers as text, their words apart by single blanks.
-//
-// Where no memory is left an answer stays too short, and so differs from the expected one.
-use instruction::Fault;
+use super::failures::Failure;
+use std::alloc::{AllocError, Global};
+use std::fmt;
 use std::fmt::Write;
 
-pub(super) fn say(answer: &mut String, word: &str) {
-    let _ = answer.push_str(word);
+#[derive(Drop)]
+pub struct Answer {
+    text: String,
 }
 
-pub(super) fn say_number(answer: &mut String, number: usize) {
-    if !answer.is_empty() {
-        say(answer, " ");
+impl Answer {
+    // An answer with no word yet.
+    pub(super) fn new(heap: Global) -> Answer {
+        Answer {
+            text: String::new(heap),
+        }
     }
-    let _ = write!(answer, "{number}");
-}
 
-pub(super) fn say_bytes(answer: &mut String, bytes: &[u8]) {
-    for byte in bytes {
-        say_number(answer, *byte as usize);
+    // Adds a word.
+    pub(super) fn say<D: fmt::Display + Drop>(&mut self, word: D) -> Result<(), AllocError> {
+        if !self.text.is_empty() {
+            self.text.push(' ')?;
+        }
+        write!(self.text, "{word}")
+    }
+
+    pub(super) fn is(&self, text: &str) -> bool {
+        self.text.as_str() == text
     }
 }
 
-pub(super) fn say_truth(answer: &mut String, holds: bool) {
-    say(answer, if holds { "yes" } else { "no" });
+impl fmt::Display for Answer {
+    fn fmt<W: fmt::Write>(&self, f: &mut fmt::Formatter<W>) -> fmt::Result {
+        f.write_str(self.text.as_str())
+    }
 }
 
-pub(super) fn say_fault(answer: &mut String, fault: Fault) {
-    let refusal = fault.refused();
-    say(answer, "refused");
-    say_number(answer, refusal.number as usize);
-    say_number(answer, refusal.section as usize);
-    say_number(answer, refusal.position);
+// An answer of one word.
+pub(super) fn said<D: fmt::Display + Drop>(heap: Global, word: D) -> Result<Answer, Failure> {
+    let mut answer = Answer::new(heap);
+    answer.say(word)?;
+    Ok(answer)
+}
+
+// An answer of a word for each item.
+pub(super) fn said_all<D: fmt::Display + Copy>(
+    heap: Global,
+    words: &[D],
+) -> Result<Answer, Failure> {
+    let mut answer = Answer::new(heap);
+    for word in words {
+        answer.say(*word)?;
+    }
+    Ok(answer)
+}
+
+pub(super) fn yes_or_no(holds: bool) -> &'static str {
+    if holds { "yes" } else { "no" }
 }

@@ -9,159 +9,155 @@
 mod answers;
 mod asking;
 mod bytes;
-mod chains;
-mod digits;
-mod trials;
-mod walks;
-mod words;
+mod cases;
+mod failures;
+mod places;
+mod steps;
+mod timing;
 
-use answers::{say, say_fault};
-use asking::{Case, answer_to};
-use bytes::add_bytes;
-use model::read;
+use answers::{Answer, said};
+use asking::Asked;
+use bytes::bytes_of;
+use cases::{Case, case_of};
+use failures::Failure;
+use model::{Model, Pack, read};
 use std::alloc::Global;
 use std::io;
-use words::{Kind, Said, has_bytes, parsed, text_of};
 
-// Says whether a record is accepted, or its refusal.
-fn is_accepted(answer: &mut String, bytes: &[u8]) -> bool {
-    match read(bytes) {
-        Ok(_) => {
-            say(answer, "accepted");
-            true
-        }
-        Err(fault) => {
-            say_fault(answer, fault);
-            false
-        }
-    }
+// A record that was accepted, and its model.
+#[derive(Drop)]
+struct Kept {
+    record: Vec<u8>,
+    model: Model,
 }
 
-// A case about the record that was kept last.
-fn work_out<'a>(
-    answer: &mut String,
+// The record that was kept last, which cases are about.
+#[derive(Drop)]
+struct Session {
     heap: Global,
-    record: &'a [u8],
-    bytes: &'a [u8],
-    said: Said<'a>,
-) -> bool {
-    match read(record) {
-        Ok(model) => answer_to(
-            answer,
-            &Case {
-                heap,
-                record,
-                model: &model,
-                bytes,
-                text: text_of(said),
-            },
-            said.kind,
-        ),
-        Err(_) => false,
-    }
+    kept: Option<Kept>,
 }
 
-// Works a case out, and says whether it could be read.
-fn answered(heap: Global, record: &mut Vec<u8>, answer: &mut String, said: Said<'_>) -> bool {
-    let mut bytes = Vec::new(heap);
-    if has_bytes(said.kind) && !add_bytes(&mut bytes, said.front.as_bytes()) {
-        return false;
+fn kept_of(heap: Global, text: &str) -> Result<Kept, Failure> {
+    let record = bytes_of(heap, text)?;
+    let model = read(record.as_slice())?;
+    Ok(Kept { record, model })
+}
+
+// A refusal is an answer too.
+fn refused(heap: Global, failure: Failure) -> Result<Answer, Failure> {
+    let Failure::Refused(refusal) = failure else {
+        return Err(failure);
+    };
+    let mut answer = said(heap, "refused")?;
+    answer.say(refusal.number)?;
+    answer.say(refusal.section)?;
+    answer.say(refusal.position)?;
+    Ok(answer)
+}
+
+impl Session {
+    // The answer to a case about the record that was kept last.
+    fn asked(&self, case: Case<'_>) -> Result<Answer, Failure> {
+        let Some(kept) = &self.kept else {
+            return Err(Failure::NoCase);
+        };
+        let pack = Pack {
+            bytes: kept.record.as_slice(),
+            model: &kept.model,
+        };
+        let asked = Asked {
+            heap: self.heap,
+            pack: &pack,
+        };
+        asked.answer_to(case)
     }
-    match said.kind {
-        Kind::Record => {
-            if is_accepted(answer, bytes.as_slice()) {
-                *record = bytes;
+
+    fn answer_to(&mut self, case: Case<'_>) -> Result<Answer, Failure> {
+        match case {
+            Case::Record(bytes) => {
+                self.kept = Some(kept_of(self.heap, bytes)?);
+                said(self.heap, "accepted")
             }
-            true
+            Case::Read(bytes) => {
+                kept_of(self.heap, bytes)?;
+                said(self.heap, "accepted")
+            }
+            _ => self.asked(case),
         }
-        Kind::Read => {
-            is_accepted(answer, bytes.as_slice());
-            true
+    }
+
+    // The answer to the case that a text writes.
+    fn answer(&mut self, text: &str) -> Result<Answer, Failure> {
+        let heap = self.heap;
+        self.answer_to(case_of(text)?)
+            .or_else(|failure| refused(heap, failure))
+    }
+
+    // Nothing where the answer to the case of a line is the expected one, and else the answer.
+    fn wrong(&mut self, line: &str) -> Result<Option<Answer>, Failure> {
+        let (text, expected) = line.split_once(" -> ").ok_or(Failure::NoCase)?;
+        let answer = self.answer(text)?;
+        if answer.is(expected) {
+            return Ok(None);
         }
-        _ => work_out(answer, heap, record.as_slice(), bytes.as_slice(), said),
+        Ok(Some(answer))
     }
 }
 
-// The same of a text.
-fn is_read(heap: Global, record: &mut Vec<u8>, answer: &mut String, text: &str) -> bool {
-    match parsed(text) {
-        Some(said) => answered(heap, record, answer, said),
-        None => false,
+// Whether the case of a line, which has this number, is answered as expected. If not, the answer is
+// printed.
+fn is_right(
+    rt: &HostRuntime,
+    session: &mut Session,
+    number: usize,
+    line: &str,
+) -> io::Result<bool> {
+    match session.wrong(line) {
+        Ok(None) => return Ok(true),
+        Ok(Some(answer)) => println!(rt; "line {number}: got {answer}")?,
+        Err(_) => println!(rt; "line {number}: unreadable")?,
     }
+    Ok(false)
 }
 
-// Works a line out, and says whether the answer is the expected one.
-fn is_right(heap: Global, record: &mut Vec<u8>, answer: &mut String, line: &str) -> bool {
-    match line.split_once(" -> ") {
-        Some((text, expected)) => {
-            is_read(heap, record, answer, text) && answer.as_str() == expected
-        }
-        None => false,
-    }
-}
-
-// An answer that is empty is one that could not be worked out.
-fn tell(rt: &HostRuntime, number: usize, answer: &str) {
-    let _ = rt.print("line ");
-    let _ = rt.print(number);
-    if answer.is_empty() {
-        let _ = rt.println(": unreadable");
-    } else {
-        let _ = rt.print(": got ");
-        let _ = rt.println(answer);
-    }
-}
-
-// How many lines and cases there were, and how many cases were wrong.
+// How many cases there were, and how many of them were wrong.
 #[derive(Clone, Copy)]
-pub struct Tally {
-    lines: usize,
+struct Tally {
     cases: usize,
     wrong: usize,
 }
 
-fn counted(tally: Tally, right: bool) -> Tally {
-    Tally {
-        lines: tally.lines,
-        cases: tally.cases.saturating_add(1),
-        wrong: tally.wrong.saturating_add(if right { 0 } else { 1 }),
-    }
-}
-
-fn judge(rt: &HostRuntime, record: &mut Vec<u8>, line: &str, tally: Tally) -> Tally {
-    let mut answer = String::new(rt.alloc());
-    let right = is_right(rt.alloc(), record, &mut answer, line);
-    if !right {
-        tell(rt, tally.lines, answer.as_str());
-    }
-    counted(tally, right)
-}
-
-fn is_case(line: &[u8]) -> bool {
-    match line {
-        [] | [b'#', ..] => false,
-        _ => true,
-    }
-}
-
-fn judge_all(rt: &HostRuntime, text: &str) -> Tally {
-    let mut record = Vec::new(rt.alloc());
-    let mut tally = Tally {
-        lines: 0,
-        cases: 0,
-        wrong: 0,
-    };
-    for line in text.lines() {
-        tally.lines = tally.lines.saturating_add(1);
-        if is_case(line.as_bytes()) {
-            tally = judge(rt, &mut record, line, tally);
+impl Tally {
+    fn count(&mut self, is_right: bool) {
+        self.cases = self.cases.saturating_add(1);
+        if !is_right {
+            self.wrong = self.wrong.saturating_add(1);
         }
     }
-    tally
+}
+
+fn is_case(line: &str) -> bool {
+    !line.is_empty() && !line.starts_with('#')
+}
+
+fn judge_all(rt: &HostRuntime, text: &str) -> io::Result<Tally> {
+    let mut session = Session {
+        heap: rt.alloc(),
+        kept: None,
+    };
+    let mut tally = Tally { cases: 0, wrong: 0 };
+    for (index, line) in text.lines().enumerate() {
+        if is_case(line) {
+            let number = index.saturating_add(1);
+            tally.count(is_right(rt, &mut session, number, line)?);
+        }
+    }
+    Ok(tally)
 }
 
 fn main(rt: HostRuntime) -> io::Result<()> {
     let text = io::read_to_string(rt.alloc(), rt.stdin())?;
-    let tally = judge_all(&rt, text.as_str());
+    let tally = judge_all(&rt, text.as_str())?;
     println!(rt; "cases {} wrong {}", tally.cases, tally.wrong)
 }

@@ -168,20 +168,20 @@ const BARRED_CLOCKS: [Row; 10] = [
 
 #[test]
 fn marks_of_every_section(rt: HostRuntime) -> Result<(), Fail> {
-    check_accepted(&rt, rt.alloc(), &ALL, &GOOD)?;
-    check_refused(&rt, rt.alloc(), &ALL, &BAD)
+    check_accepted(&rt, &ALL, &GOOD)?;
+    check_refused(&rt, &ALL, &BAD)
 }
 
 #[test]
 fn next_values(rt: HostRuntime) -> Result<(), Fail> {
-    check_accepted(&rt, rt.alloc(), &WITH_NEXT, &GOOD_NEXT)?;
-    check_refused(&rt, rt.alloc(), &WITH_NEXT, &BAD_NEXT)?;
-    check_refused(&rt, rt.alloc(), &WITHOUT_NEXT, &BARRED_NEXT)
+    check_accepted(&rt, &WITH_NEXT, &GOOD_NEXT)?;
+    check_refused(&rt, &WITH_NEXT, &BAD_NEXT)?;
+    check_refused(&rt, &WITHOUT_NEXT, &BARRED_NEXT)
 }
 
 #[test]
 fn clocks(rt: HostRuntime) -> Result<(), Fail> {
-    check_accepted(&rt, rt.alloc(), &WITH_CLOCKS, &GOOD_CLOCKS)?;
-    check_refused(&rt, rt.alloc(), &WITH_CLOCKS, &BAD_CLOCKS)?;
-    check_refused(&rt, rt.alloc(), &WITHOUT_CLOCKS, &BARRED_CLOCKS)
+    check_accepted(&rt, &WITH_CLOCKS, &GOOD_CLOCKS)?;
+    check_refused(&rt, &WITH_CLOCKS, &BAD_CLOCKS)?;
+    check_refused(&rt, &WITHOUT_CLOCKS, &BARRED_CLOCKS)
 }

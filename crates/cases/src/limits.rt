@@ -1,33 +1,33 @@
 // The length of a formula, and every byte as a mark.
-use super::tried::{ALL, Told, add_formula, answer, check_formula, first_byte};
+use super::tried::{ALL, add_formula, answer, check_formula, first_byte};
+use instruction::Refusal;
 use std::alloc::{AllocError, Global};
 use std::test::Fail;
 
-// What is said of a formula that is `t` and then one byte over and over.
+// What is wrong with a formula that is `t` and then one byte over and over.
 #[derive(Clone, Copy)]
-enum Long {
-    Fits,
+enum LongFault {
     // at the first byte of the count; a question has none, and there at its first byte
     TooLong,
     // at the second byte of the formula
     UnknownMark,
 }
 
-// A length, the byte behind the `t`, and what is said.
-const LENGTHS: [(usize, u8, Long); 13] = [
-    (1, b'!', Long::Fits),
-    (2, b'!', Long::Fits),
-    (255, b'!', Long::Fits),
-    (256, b'!', Long::Fits),
-    (257, b'!', Long::Fits),
-    (1999, b'!', Long::Fits),
-    (2000, b'!', Long::Fits),
-    (2000, b'x', Long::UnknownMark),
-    (2001, b'!', Long::TooLong),
-    (2001, b'x', Long::TooLong),
-    (2048, b'!', Long::TooLong),
-    (2304, b'!', Long::TooLong),
-    (4096, b'!', Long::TooLong),
+// A length, the byte behind the `t`, and what is wrong.
+const LENGTHS: [(usize, u8, Option<LongFault>); 13] = [
+    (1, b'!', None),
+    (2, b'!', None),
+    (255, b'!', None),
+    (256, b'!', None),
+    (257, b'!', None),
+    (1999, b'!', None),
+    (2000, b'!', None),
+    (2000, b'x', Some(LongFault::UnknownMark)),
+    (2001, b'!', Some(LongFault::TooLong)),
+    (2001, b'x', Some(LongFault::TooLong)),
+    (2048, b'!', Some(LongFault::TooLong)),
+    (2304, b'!', Some(LongFault::TooLong)),
+    (4096, b'!', Some(LongFault::TooLong)),
 ];
 
 fn filled(heap: Global, len: usize, byte: u8) -> Result<Vec<u8>, AllocError> {
@@ -37,33 +37,26 @@ fn filled(heap: Global, len: usize, byte: u8) -> Result<Vec<u8>, AllocError> {
     Ok(code)
 }
 
-fn expected(section: u8, long: Long) -> Option<Told> {
+fn told(section: u8, fault: LongFault) -> Refusal {
     let first = first_byte(section);
-    let (number, position) = match long {
-        Long::Fits => return None,
-        Long::TooLong => (6, first.saturating_sub(2)),
-        Long::UnknownMark => (7, first.saturating_add(1)),
+    let (number, position) = match fault {
+        LongFault::TooLong => (6, first.saturating_sub(2)),
+        LongFault::UnknownMark => (7, first.saturating_add(1)),
     };
-    Some(Told {
+    Refusal {
         number,
         section,
         position,
-    })
+    }
 }
 
 #[test]
 fn lengths(rt: HostRuntime) -> Result<(), Fail> {
-    for section in &ALL {
-        for row in &LENGTHS {
-            let (len, byte, long) = *row;
+    for &section in &ALL {
+        for &(len, byte, fault) in &LENGTHS {
             let code = filled(rt.alloc(), len, byte)?;
-            check_formula(
-                &rt,
-                rt.alloc(),
-                *section,
-                code.as_slice(),
-                expected(*section, long),
-            )?;
+            let expected = fault.map(|fault| told(section, fault));
+            check_formula(&rt, section, code.as_slice(), expected)?;
         }
     }
     Ok(())
@@ -79,7 +72,7 @@ fn largest_record(rt: HostRuntime) -> Result<(), Fail> {
     }
     assert_eq!(rt; answer(record.as_slice()), None);
     record.push(b't')?;
-    let expected = Told {
+    let expected = Refusal {
         number: 13,
         section: 6,
         position: 16_026,
@@ -104,17 +97,14 @@ fn alone(mark: u8, section: u8) -> Option<u8> {
 
 #[test]
 fn every_byte(rt: HostRuntime) -> Result<(), Fail> {
-    for section in &ALL {
+    for &section in &ALL {
         for mark in 0..=255u8 {
-            let expected = match alone(mark, *section) {
-                None => None,
-                Some(number) => Some(Told {
-                    number,
-                    section: *section,
-                    position: first_byte(*section),
-                }),
-            };
-            check_formula(&rt, rt.alloc(), *section, &[mark], expected)?;
+            let expected = alone(mark, section).map(|number| Refusal {
+                number,
+                section,
+                position: first_byte(section),
+            });
+            check_formula(&rt, section, &[mark], expected)?;
         }
     }
     Ok(())

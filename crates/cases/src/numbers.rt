@@ -2,6 +2,7 @@
 use super::parts::{RECORD, model_of};
 use super::tried::PLAIN;
 use ceilings::ceilings;
+use model::Pack;
 use std::test::Fail;
 use valuations::{number, valuations, values};
 
@@ -18,10 +19,19 @@ fn valuations_of_a_record(rt: HostRuntime) -> Result<(), Fail> {
     Ok(())
 }
 
+fn ceilings_of(record: &[u8]) -> Result<[u16; 4], Fail> {
+    let model = model_of(record)?;
+    let pack = Pack {
+        bytes: record,
+        model: &model,
+    };
+    Ok(ceilings(&pack))
+}
+
 // RECORD compares clock 3 with 250 and no other; PLAIN compares none.
 #[test]
 fn ceilings_of_a_record(rt: HostRuntime) -> Result<(), Fail> {
-    assert_eq!(rt; ceilings(RECORD, &model_of(RECORD)?), [0, 0, 0, 250]);
-    assert_eq!(rt; ceilings(PLAIN, &model_of(PLAIN)?), [0, 0, 0, 0]);
+    assert_eq!(rt; ceilings_of(RECORD)?, [0, 0, 0, 250]);
+    assert_eq!(rt; ceilings_of(PLAIN)?, [0, 0, 0, 0]);
     Ok(())
 }

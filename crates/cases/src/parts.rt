@@ -1,6 +1,7 @@
 // What the reader hands out of an accepted record: its sizes, and each formula with its position.
 use super::tried::PLAIN;
-use model::{Model, Role, read};
+use instruction::Refusal;
+use model::{Model, Pack, Role, read};
 use std::test::Fail;
 
 // Three variables and four clocks. The formulas have lengths from 1 to 8.
@@ -27,10 +28,10 @@ const PARTS: [(Role, usize, &[u8]); 8] = [
 ];
 
 pub(super) fn model_of(record: &[u8]) -> Result<Model, Fail> {
-    match read(record) {
-        Ok(model) => Ok(model),
-        Err(fault) => Err(Fail::new(format_args!("refused with {}", fault.refused().number))),
-    }
+    read(record).map_err(|fault| Fail::new(format_args!(
+        "refused with {}",
+        Refusal::from(fault).number
+    )))
 }
 
 #[test]
@@ -38,18 +39,19 @@ fn sizes(rt: HostRuntime) -> Result<(), Fail> {
     let sizes = model_of(RECORD)?.sizes;
     assert_eq!(rt; sizes.variables, 3);
     assert_eq!(rt; sizes.clocks, 4);
-    for (count, expected) in sizes.counts.iter().zip(b"\x10\x10\x04".iter()) {
-        assert_eq!(rt; *count, *expected);
-    }
+    assert_eq!(rt; sizes.counts(), b"\x10\x10\x04".as_slice());
     Ok(())
 }
 
 #[test]
 fn formulas_of_a_record(rt: HostRuntime) -> Result<(), Fail> {
     let model = model_of(RECORD)?;
-    for row in &PARTS {
-        let (role, position, code) = *row;
-        let Some(part) = model.formula(RECORD, role) else {
+    let pack = Pack {
+        bytes: RECORD,
+        model: &model,
+    };
+    for &(role, position, code) in &PARTS {
+        let Some(part) = pack.formula(role) else {
             return Err(Fail::new("no formula"));
         };
         assert_eq!(rt; part.at, position);
@@ -70,10 +72,12 @@ const RESETS: [(&[u8], u8, bool); 6] = [
 
 #[test]
 fn resets_of_declared_clocks(rt: HostRuntime) -> Result<(), Fail> {
-    for row in &RESETS {
-        let (record, clock, there) = *row;
-        let model = model_of(record)?;
-        assert_eq!(rt; model.formula(record, Role::Reset(clock)).is_some(), there);
+    for &(record, clock, there) in &RESETS {
+        let pack = Pack {
+            bytes: record,
+            model: &model_of(record)?,
+        };
+        assert_eq!(rt; pack.formula(Role::Reset(clock)).is_some(), there);
     }
     Ok(())
 }

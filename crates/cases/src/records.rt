@@ -1,6 +1,7 @@
 // Whole records: the numbers of variables, values and clocks, where a record ends, and what
 // stands behind it.
-use super::tried::{PLAIN, Told, answer};
+use super::tried::{PLAIN, answer};
+use instruction::Refusal;
 
 // A record and its refusal: number, section, position.
 type Whole = (&'static [u8], u8, u8, usize);
@@ -136,16 +137,15 @@ const MISSING_IN: [u8; 18] = [1, 1, 2, 2, 2, 2, 3, 3, 3, 4, 4, 4, 5, 5, 5, 6, 6,
 
 #[test]
 fn accepted_records(rt: HostRuntime) {
-    for record in &ACCEPTED {
-        assert_eq!(rt; answer(*record), None);
+    for &record in &ACCEPTED {
+        assert_eq!(rt; answer(record), None);
     }
 }
 
 #[test]
 fn refused_records(rt: HostRuntime) {
-    for row in &REFUSED {
-        let (record, number, section, position) = *row;
-        let expected = Told {
+    for &(record, number, section, position) in &REFUSED {
+        let expected = Refusal {
             number,
             section,
             position,
@@ -154,19 +154,16 @@ fn refused_records(rt: HostRuntime) {
     }
 }
 
-fn front(bytes: &[u8], len: usize) -> &[u8] {
-    &bytes[0..len.min(bytes.len())]
-}
-
 // Every record that PLAIN begins with.
 #[test]
 fn cut_records(rt: HostRuntime) {
-    for (len, section) in MISSING_IN.iter().enumerate() {
-        let expected = Told {
+    for (len, &section) in MISSING_IN.iter().enumerate() {
+        let expected = Refusal {
             number: 1,
-            section: *section,
+            section,
             position: len,
         };
-        assert_eq!(rt; answer(front(PLAIN, len)), Some(expected));
+        let front = PLAIN.get(..len).unwrap_or(PLAIN);
+        assert_eq!(rt; answer(front), Some(expected));
     }
 }

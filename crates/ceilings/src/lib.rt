@@ -11,48 +11,41 @@ ghost use Rattle.model.specs.Reading.{layout};
 ghost use Rattle.ceilings.specs.Ceilings.{Ceilings, ceiling_at, height_at, peak};
 
 use formula::highest;
-use model::{Model, Role};
+use model::{Pack, Role};
+use std::array;
 
 // The largest constant that a clock is compared with in the formula of a role; 0 where there is
 // no such formula.
-fn height_of(bytes: &[u8], model: &Model, role: Role, clock: u8) -> u16
-    ensures { MatchOption (span_of model.now role) (result ≡ 0) (λ p. result ≡ height_at bytes.now (layout model.now) clock p) }
+fn height_of(pack: &Pack<'_>, role: Role, clock: u8) -> u16
+    ensures { MatchOption (span_of pack.now.model.now role) (result ≡ 0) (λ p. result ≡ height_at pack.now.bytes.now (layout pack.now.model.now) clock p) }
 {
-    match model.formula(bytes, role) {
-        Some(part) => highest(part.code, &model.sizes, clock),
-        None => 0,
-    }
+    pack.formula(role)
+        .map_or(0, |part| highest(part.code, &pack.model.sizes, clock))
 }
 
 // The same in all reset formulas.
-fn height_of_resets(bytes: &[u8], model: &Model, clock: u8) -> u16
-    ensures { result ≡ peak bytes.now (layout model.now) clock (layout model.now).resets }
+fn height_of_resets(pack: &Pack<'_>, clock: u8) -> u16
+    ensures { result ≡ peak pack.now.bytes.now (layout pack.now.model.now) clock (layout pack.now.model.now).resets }
 {
-    let mut height: u16 = 0;
-    'resets: for reset in 0..model.sizes.clocks {
-        height = height.max(height_of(bytes, model, Role::Reset(reset), clock));
-    }
-    height
+    (0..pack.model.sizes.clocks)
+        .map(|reset| height_of(pack, Role::Reset(reset), clock))
+        .max()
+        .unwrap_or(0)
 }
 
-fn ceiling_of(bytes: &[u8], model: &Model, clock: u8) -> u16
-    ensures { result ≡ ceiling_at bytes.now (layout model.now) clock }
+fn ceiling_of(pack: &Pack<'_>, clock: u8) -> u16
+    ensures { result ≡ ceiling_at pack.now.bytes.now (layout pack.now.model.now) clock }
 {
-    let invariant = height_of(bytes, model, Role::Invariant, clock);
-    let transition = height_of(bytes, model, Role::Transition, clock);
-    let resets = height_of_resets(bytes, model, clock);
+    let invariant = height_of(pack, Role::Invariant, clock);
+    let transition = height_of(pack, Role::Transition, clock);
+    let resets = height_of_resets(pack, clock);
     invariant.max(transition.max(resets))
 }
 
 // The ceiling of each clock of a model that was read from these bytes; 0 for a clock that is not
 // declared. Of other bytes, the same of what lies at the places that the model names.
-pub fn ceilings(bytes: &[u8], model: &Model) -> [u16; 4]
-    ensures { Ceilings bytes.now (layout model.now) result }
+pub fn ceilings(pack: &Pack<'_>) -> [u16; 4]
+    ensures { Ceilings pack.now.bytes.now (layout pack.now.model.now) result }
 {
-    [
-        ceiling_of(bytes, model, 0),
-        ceiling_of(bytes, model, 1),
-        ceiling_of(bytes, model, 2),
-        ceiling_of(bytes, model, 3),
-    ]
+    array::from_fn(|clock| ceiling_of(pack, clock as u8))
 }

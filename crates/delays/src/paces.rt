@@ -1,9 +1,11 @@
 // The present moment: how many parts a unit has, and the fractions of the clocks.
 ghost use Rattle.std.specs.Prelude.{◌≡◌, false, map, slice_index_or};
-ghost use Rattle.delays.specs.Pace.{fitting, fraction_after, fractions_after, parts_after, wait_of};
+ghost use Rattle.delays.specs.Pace.{fitting, fraction_after, fractions_after, highest, parts_after, wait_of};
+
+use std::array;
 
 // How time passes in a step.
-#[derive(Clone, Copy)]
+#[derive(Clone, Copy, Debug, PartialEq, Eq)]
 pub enum Passing {
     // not at all
     Still,
@@ -13,7 +15,8 @@ pub enum Passing {
     Meeting,
 }
 
-#[derive(Clone, Copy)]
+// How many parts a unit has, and the fraction of each clock in parts.
+#[derive(Clone, Copy, Debug, PartialEq, Eq)]
 pub struct Pace {
     pub parts: u32,
     pub fractions: [u32; 4],
@@ -26,6 +29,13 @@ fn fraction(ranked: bool, wait: u32, f: u32) -> u32
     if ranked { f.saturating_add(wait) } else { 0 }
 }
 
+// The highest of the fractions.
+fn top(fractions: [u32; 4]) -> u32
+    ensures { result ≡ highest fractions }
+{
+    fractions.into_iter().max().unwrap_or(0)
+}
+
 impl Pace {
     // How many parts the next step waits.
     pub fn wait(self, passing: Passing) -> u32
@@ -34,10 +44,7 @@ impl Pace {
         match passing {
             Passing::Still => 0,
             Passing::Leaving => 1,
-            Passing::Meeting => {
-                let [a, b, c, d] = self.fractions;
-                self.parts.saturating_sub(a.max(b.max(c.max(d))))
-            }
+            Passing::Meeting => self.parts.saturating_sub(top(self.fractions)),
         }
     }
 
@@ -48,18 +55,10 @@ impl Pace {
     {
         let wait = self.wait(passing);
         let parts = match passing {
-            Passing::Still => self.parts,
             Passing::Leaving => self.parts.saturating_add(1),
-            Passing::Meeting => self.parts,
+            Passing::Still | Passing::Meeting => self.parts,
         };
-        let [a, b, c, d] = self.fractions;
-        let [i, j, k, l] = ranked;
-        let fractions = [
-            fraction(i, wait, a),
-            fraction(j, wait, b),
-            fraction(k, wait, c),
-            fraction(l, wait, d),
-        ];
+        let fractions = array::from_fn(|c| fraction(ranked[c], wait, self.fractions[c]));
         Pace { parts, fractions }
     }
 }

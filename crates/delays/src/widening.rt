@@ -42,9 +42,7 @@ pub fn widen(steps: &mut [Step], parts: u32)
         return;
     }
     let mut before: u64 = 0;
-    let mut i = steps.len();
-    'steps: while i > 0 {
-        i -= 1;
+    'steps: for i in (0..steps.len()).rev() {
         let delay = steps[i].delay;
         steps[i].delay = widened_delay(before, delay, parts);
         before += delay as u64;

@@ -7,7 +7,7 @@ use Rattle.delays.specs.Pace.{widened, delays_after}
 use Rattle.delays.specs.Widens.{Widens}
 use Rattle.kinds.specs.declared.steps.Step.{Step}
 use Rattle.kinds.specs.Steps.{delay_of, with_delay, redelayed, trials_of}
-use Rattle.dense.proofs.Timed.{length-widened}
+use Rattle.dense.specs.Timed.{length-widened}
 use Rattle.dense.proofs.Bounded.{Within, widened-within, fitting-all}
 use Rattle.dense.proofs.Spelled.{none, filled, next-filled, as-they-are}
 

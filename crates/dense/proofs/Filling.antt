@@ -7,7 +7,7 @@ use Rattle.regions.specs.declared.places.Place.{Place}
 use Rattle.tables.specs.Settings.{Setting}
 use Rattle.dense.specs.Delays.{Timing, stuck, arriving, trying, timing}
 use Rattle.dense.specs.Trials.{starting, stepping, dense}
-use Rattle.dense.proofs.Timed.{timing-next, delays-each}
+use Rattle.dense.specs.Timed.{timing-next, delays-each}
 use Rattle.dense.proofs.Bounded.{Within, bounded}
 use Rattle.dense.proofs.Spelled.{none, filled, refilled, here-is, trials-are, trials-more}
 use Rattle.dense.proofs.Advancing.{trials-each}
@@ -19,12 +19,11 @@ giving o p t = o
 abbrev pub state : Option Place → ℕ → List ℕ → List ℕ → Timing
 state o D fs ds = record { place = o; parts = D; fractions = fs; delays = ds }
 
--- from nothing, and to nothing
-pub from-none : (o next : Option Place) (t : ℕ) (s : Timing) → o ≡ None → trying (giving next) t o s ≡ stuck s
-from-none o next t s e = ap (λ a. trying (giving next) t a s) e
-
-pub to_none : (o next : Option Place) (p : Place) (t : ℕ) (s : Timing) → o ≡ Some p → next ≡ None → trying (giving next) t o s ≡ stuck s
-to_none o next p t s e n = ap (λ a. trying (giving next) t a s) e ∙ ap (λ a. arriving t p a s) n
+-- from nothing, or to nothing
+pub nowhere : (o next : Option Place) (t : ℕ) (s : Timing) → ((p q : Place) → o ≡ Some p → next ≡ Some q → ⊥) → trying (giving next) t o s ≡ stuck s
+nowhere None next t s h = refl
+nowhere (Some p) None t s h = refl
+nowhere (Some p) (Some q) t s h = absurd (h p q refl refl)
 
 arrived : (t : ℕ) (p : Place) (o : Option Place) (s : Timing) → (arriving t p o s).place ≡ o
 arrived t p None s = refl

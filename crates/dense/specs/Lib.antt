@@ -1,2 +1,4 @@
 pub mod Delays
 pub mod Trials
+pub mod Timed
+pub mod Laws

@@ -1,68 +1,59 @@
 // Dense time as a kind of time.
 ghost use Rattle.std.specs.Prelude.{◌≡◌};
-ghost use Rattle.tables.specs.Settings.{setting_in};
 ghost use Rattle.ceilings.specs.Ceilings.{Ceilings};
 ghost use Rattle.model.specs.Reading.{layout};
+ghost use Rattle.tables.specs.Made.{made};
 ghost use Rattle.dense.specs.Trials.{dense, Regional};
 
 use super::timings::fill;
-use super::trials::{begins, moves};
-use ceilings::ceilings;
-use kinds::{Step, Time};
-use model::Model;
+use super::trials::{moves, starts};
+use kinds::{MOST_STEPS, Step, Time};
+use model::Pack;
 use regions::Place;
-use valuations::{valuations, values};
-
-// The most steps of a chain.
-const MOST_STEPS: usize = 65534;
+use tables::Setting;
 
 #[derive(Clone, Copy)]
 pub struct Dense<'a> {
-    bytes: &'a [u8],
-    model: &'a Model,
-    ceilings: [u16; 4],
+    setting: Setting<'a>,
 }
 
 impl<'a> Dense<'a> {
-    // Dense time over the model that was read from these bytes.
-    pub fn of(bytes: &'a [u8], model: &'a Model) -> Dense<'a>
-        ensures bytes { result.bytes.now ≡ bytes.now }
-        ensures model { result.model.now ≡ model.now }
-        ensures ceilings { Ceilings bytes.now (layout model.now) result.ceilings }
-        ensures regional { Regional (setting_in bytes.now model.now result.ceilings) }
+    // Dense time over a model and the bytes it was read from.
+    pub fn of(pack: &Pack<'a>) -> Dense<'a>
+        ensures bytes { result.setting.pack.bytes.now ≡ pack.now.bytes.now }
+        ensures model { result.setting.pack.model.now ≡ pack.now.model.now }
+        ensures ceilings { Ceilings pack.now.bytes.now (layout pack.now.model.now) result.setting.ceilings }
+        ensures regional { Regional (made result.setting) }
     {
-        let ceilings = ceilings(bytes, model);
         Dense {
-            bytes,
-            model,
-            ceilings,
+            setting: Setting::of(pack),
         }
     }
 }
 
 impl<'a> Time for Dense<'a> {
+    ghost use Rattle.dense.specs.Laws.{lawful_in};
+
     type Place = Place;
 
-    ghost meaning = { λ k. dense (setting_in k.bytes.now k.model.now k.ceilings) };
+    ghost meaning = { λ k. dense (made k.setting) };
+
+    ghost lawful = { λ k. lawful_in k.setting.pack.bytes.now k.setting.pack.model.now k.setting.ceilings };
 
     fn start_trials(&self) -> u16 {
-        valuations(&self.model.sizes)
+        self.setting.valuations()
     }
 
     fn step_trials(&self) -> u16 {
-        valuations(&self.model.sizes) + 1
+        self.setting.valuations() + 1
     }
 
     fn start(&self, trial: u16) -> Option<Place> {
-        if trial >= valuations(&self.model.sizes) {
-            return None;
-        }
-        let values = values(&self.model.sizes, trial);
-        begins(self.bytes, self.model, self.ceilings, &values, trial)
+        starts(&self.setting, trial)
     }
 
     fn step(&self, place: Place, trial: u16) -> Option<Place> {
-        moves(self.bytes, self.model, self.ceilings, place, trial)
+        moves(&self.setting, place, trial)
     }
 
     fn elapses(&self, trial: u16) -> bool {
@@ -86,8 +77,6 @@ impl<'a> Time for Dense<'a> {
             return 0;
         }
         let first = self.start(start);
-        fill(self.bytes, self.model, self.ceilings, first, steps)
+        fill(&self.setting, first, steps)
     }
-
-    fn keeps(&self) {}
 }

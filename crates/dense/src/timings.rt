@@ -3,39 +3,24 @@ ghost use Rattle.std.specs.Prelude.{◌≡◌, ℕ, ◌+◌, ◌<◌, ◌≤◌,
 ghost use Rattle.delays.specs.Pace.{wait_of, parts_after, fractions_after, delays_after};
 ghost use Rattle.kinds.specs.Steps.{redelayed, trials_of};
 ghost use Rattle.regions.specs.Regions.{rank_of};
-ghost use Rattle.tables.specs.Settings.{setting_in};
+ghost use Rattle.tables.specs.Made.{made};
 ghost use Rattle.dense.specs.Delays.{passing_of, ranked, timing, trying};
 ghost use Rattle.dense.specs.Trials.{stepping};
 
 use super::trials::moves;
 use delays::{Pace, Passing, widen};
 use kinds::Step;
-use model::Model;
 use regions::{Clock, Place, some_sharp};
-
-// The last number that a trial may have.
-const LAST_TRIAL: u32 = 65535;
+use tables::Setting;
 
 // The place that a trial gives; nothing from nothing.
-fn onward(
-    bytes: &[u8],
-    model: &Model,
-    ceilings: [u16; 4],
-    at: Option<Place>,
-    trial: u32,
-) -> Option<Place>
+fn onward(setting: &Setting<'_>, at: Option<Place>, trial: u32) -> Option<Place>
     ensures nowhere { at ≡ None → result ≡ None }
-    ensures place { (p : Place) → at ≡ Some p → result ≡ stepping (setting_in bytes.now model.now ceilings) p trial }
+    ensures place { (p : Place) → at ≡ Some p → result ≡ stepping (made setting.now) p trial }
 {
-    match at {
-        None => None,
-        Some(place) => {
-            if trial > LAST_TRIAL {
-                return None;
-            }
-            moves(bytes, model, ceilings, place, trial as u16)
-        }
-    }
+    let place = at?;
+    let trial = u16::try_from(trial).ok()?;
+    moves(setting, place, trial)
 }
 
 // How time passes in a trial from a place.
@@ -65,13 +50,7 @@ fn has_fraction(clock: Clock) -> bool
 fn fractions_in(place: Place) -> [bool; 4]
     ensures { result ≡ ranked place 0 ∷ ranked place 1 ∷ ranked place 2 ∷ ranked place 3 ∷ [] }
 {
-    let [a, b, c, d] = place.clocks;
-    [
-        has_fraction(a),
-        has_fraction(b),
-        has_fraction(c),
-        has_fraction(d),
-    ]
+    place.clocks.map(|clock| has_fraction(clock))
 }
 
 // Step i waits as time passes in it; where clocks leave their whole numbers the steps before it are
@@ -112,38 +91,34 @@ fn attempt(
     ensures fractions { result.fractions ≡ (trying (λ _ _. next) trial at (record { place = at; parts = pace.parts; fractions = pace.fractions; delays = trials_of (take i steps.old) })).fractions }
     ensures steps { steps.new ≡ redelayed (take (i + 1) steps.old) (reverse (trying (λ _ _. next) trial at (record { place = at; parts = pace.parts; fractions = pace.fractions; delays = trials_of (take i steps.old) })).delays) ++ drop (i + 1) steps.old }
 {
-    let Some(place) = at else {
+    let (Some(place), Some(later)) = (at, next) else {
         steps[i].delay = 0;
         return pace;
     };
-    let Some(later) = next else {
-        steps[i].delay = 0;
-        return pace;
-    };
-    let ranked = fractions_in(later);
-    advance(steps, i, pace, passing_of(place, trial), ranked)
+    advance(
+        steps,
+        i,
+        pace,
+        passing_of(place, trial),
+        fractions_in(later),
+    )
 }
 
 // Fills the delays of a chain from a place by the trials that the steps have for delays.
-pub(super) fn fill(
-    bytes: &[u8],
-    model: &Model,
-    ceilings: [u16; 4],
-    first: Option<Place>,
-    steps: &mut [Step],
-) -> u32
+pub(super) fn fill(setting: &Setting<'_>, first: Option<Place>, steps: &mut [Step]) -> u32
     requires { length steps.old ≤ 65534 }
-    ensures parts { result ≡ (timing (λ _. first) (stepping (setting_in bytes.now model.now ceilings)) 0 (trials_of steps.old)).parts }
-    ensures steps { steps.new ≡ redelayed steps.old (reverse (timing (λ _. first) (stepping (setting_in bytes.now model.now ceilings)) 0 (trials_of steps.old)).delays) }
+    ensures parts { result ≡ (timing (λ _. first) (stepping (made setting.now)) 0 (trials_of steps.old)).parts }
+    ensures steps { steps.new ≡ redelayed steps.old (reverse (timing (λ _. first) (stepping (made setting.now)) 0 (trials_of steps.old)).delays) }
 {
     let mut at = first;
     let mut pace = Pace {
         parts: 1,
         fractions: [0; 4],
     };
+    // by index: a step is lent together with all those before it, which it may widen
     'steps: for i in 0..steps.len() {
         let trial = steps[i].delay;
-        let next = onward(bytes, model, ceilings, at, trial);
+        let next = onward(setting, at, trial);
         pace = attempt(steps, i, pace, trial, at, next);
         at = next;
     }

@@ -1,13 +1,15 @@
 // The trials: a place, or nothing.
 ghost use Rattle.std.specs.Prelude.{◌≡◌};
 ghost use Rattle.regions.specs.Clocks.{four_of};
-ghost use Rattle.tables.specs.Settings.{setting_in};
-ghost use Rattle.dense.specs.Trials.{begun, beginning, passing, entering, stepping};
+ghost use Rattle.tables.specs.Made.{made};
+ghost use Rattle.dense.specs.Trials.{begun, beginning, passing, entering, starting, stepping};
 
-use model::{Model, Role};
+use judging::Seen;
+use model::Role;
 use regions::{Clock, Place, elapse, reset};
-use tables::{resets, says};
-use valuations::{valuations, values, values as next_values};
+use std::array;
+use tables::{Setting, resets, says};
+use valuations::values;
 
 fn begin(clock: u8, clocks: u8) -> Clock
     ensures { result ≡ begun clocks clock }
@@ -23,100 +25,93 @@ fn begin(clock: u8, clocks: u8) -> Clock
 fn zeros(clocks: u8) -> [Clock; 4]
     ensures { result ≡ four_of (begun clocks) }
 {
-    [
-        begin(0, clocks),
-        begin(1, clocks),
-        begin(2, clocks),
-        begin(3, clocks),
-    ]
+    array::from_fn(|clock| begin(clock as u8, clocks))
 }
 
 // A valuation with all clocks 0, if it begins a run.
-pub(super) fn begins(
-    bytes: &[u8],
-    model: &Model,
-    ceilings: [u16; 4],
-    values: &[u8; 8],
-    valuation: u16,
-) -> Option<Place>
-    ensures { result ≡ beginning (setting_in bytes.now model.now ceilings) values.now valuation }
+fn begins(setting: &Setting<'_>, values: &[u8; 8], valuation: u16) -> Option<Place>
+    ensures { result ≡ beginning (made setting.now) values.now valuation }
 {
-    let clocks = zeros(model.sizes.clocks);
+    let clocks = zeros(setting.pack.model.sizes.clocks);
     let origin = Place { valuation, clocks };
-    if !says(bytes, model, Role::Start, &origin, values, values) {
-        return None;
-    }
-    if !says(bytes, model, Role::Invariant, &origin, values, values) {
-        return None;
-    }
-    Some(origin)
+    let shown = Seen {
+        reading: &origin,
+        values,
+        next: values,
+    };
+    let begins = says(&setting.pack, Role::Start, &shown)
+        && says(&setting.pack, Role::Invariant, &shown);
+    begins.then_some(origin)
 }
 
 // Time passes until some clock stands otherwise.
-fn passes(
-    bytes: &[u8],
-    model: &Model,
-    ceilings: [u16; 4],
-    values: &[u8; 8],
-    place: Place,
-) -> Option<Place>
-    ensures { result ≡ passing (setting_in bytes.now model.now ceilings) values.now place }
+fn passes(setting: &Setting<'_>, values: &[u8; 8], place: Place) -> Option<Place>
+    ensures { result ≡ passing (made setting.now) values.now place }
 {
-    if says(bytes, model, Role::Urgent, &place, values, values) {
-        return None;
-    }
-    let clocks = elapse(place.clocks, ceilings);
-    let later = Place {
-        valuation: place.valuation,
-        clocks,
+    let shown = Seen {
+        reading: &place,
+        values,
+        next: values,
     };
-    if !says(bytes, model, Role::Invariant, &later, values, values) {
+    if says(&setting.pack, Role::Urgent, &shown) {
         return None;
     }
-    Some(later)
+    let later = Place {
+        clocks: elapse(place.clocks, setting.ceilings),
+        ..place
+    };
+    let shown = Seen {
+        reading: &later,
+        values,
+        next: values,
+    };
+    says(&setting.pack, Role::Invariant, &shown).then_some(later)
 }
 
 // The discrete step into a valuation.
 fn enters(
-    bytes: &[u8],
-    model: &Model,
-    ceilings: [u16; 4],
+    setting: &Setting<'_>,
     values: &[u8; 8],
     next: &[u8; 8],
     place: Place,
     valuation: u16,
 ) -> Option<Place>
-    ensures { result ≡ entering (setting_in bytes.now model.now ceilings) values.now next.now place valuation }
+    ensures { result ≡ entering (made setting.now) values.now next.now place valuation }
 {
-    if !says(bytes, model, Role::Transition, &place, values, next) {
+    let shown = Seen {
+        reading: &place,
+        values,
+        next,
+    };
+    if !says(&setting.pack, Role::Transition, &shown) {
         return None;
     }
-    let clocks = reset(place.clocks, resets(bytes, model, &place, values, next));
+    let clocks = reset(place.clocks, resets(&setting.pack, &shown));
     let entered = Place { valuation, clocks };
-    if !says(bytes, model, Role::Invariant, &entered, next, next) {
-        return None;
-    }
-    Some(entered)
+    let shown = Seen {
+        reading: &entered,
+        values: next,
+        next,
+    };
+    says(&setting.pack, Role::Invariant, &shown).then_some(entered)
+}
+
+// The place that a start trial gives: trial i begins in valuation i.
+pub(super) fn starts(setting: &Setting<'_>, trial: u16) -> Option<Place>
+    ensures { result ≡ starting (made setting.now) trial }
+{
+    let values = setting.values(trial)?;
+    begins(setting, &values, trial)
 }
 
 // The place that a step trial gives: trial 0 is elapse, each other one a discrete step.
-pub(super) fn moves(
-    bytes: &[u8],
-    model: &Model,
-    ceilings: [u16; 4],
-    place: Place,
-    trial: u16,
-) -> Option<Place>
-    ensures { result ≡ stepping (setting_in bytes.now model.now ceilings) place trial }
+pub(super) fn moves(setting: &Setting<'_>, place: Place, trial: u16) -> Option<Place>
+    ensures { result ≡ stepping (made setting.now) place trial }
 {
-    let values = values(&model.sizes, place.valuation);
-    if trial == 0 {
-        return passes(bytes, model, ceilings, &values, place);
-    }
-    let valuation = trial - 1;
-    if valuation >= valuations(&model.sizes) {
-        return None;
-    }
-    let next = next_values(&model.sizes, valuation);
-    enters(bytes, model, ceilings, &values, &next, place, valuation)
+    let values = values(&setting.pack.model.sizes, place.valuation);
+    let Some(valuation) = trial.checked_sub(1) else {
+        return passes(setting, &values, place);
+    };
+    let next = setting.values(valuation)?;
+    enters(setting, &values, &next, place, valuation)
 }

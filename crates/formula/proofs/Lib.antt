@@ -5,3 +5,4 @@ pub mod Front
 pub mod Unique
 pub mod Scanned
 pub mod Told
+pub mod Onward

@@ -3,14 +3,14 @@ ghost use Rattle.std.specs.Prelude.{◌≡◌};
 ghost use Rattle.instruction.specs.Counts.{value_counts};
 ghost use Rattle.formula.specs.Heights.{Heights, constant_of};
 
-use super::stepping::width_of;
-use instruction::{Instruction, Section, Sizes, next_instruction};
+use super::listing::Instructions;
+use instruction::{Instruction, Section, Sizes};
 
 fn constant_of(instruction: Instruction, clock: u8) -> u16
     ensures { result ≡ constant_of clock instruction }
 {
     match instruction {
-        Instruction::Clock(_, c, j) => { if c == clock { j as u16 } else { 0 } }
+        Instruction::Clock(_, c, j) if c == clock => u16::from(j),
         _ => 0,
     }
 }
@@ -20,15 +20,13 @@ fn constant_of(instruction: Instruction, clock: u8) -> u16
 pub fn highest(code: &[u8], sizes: &Sizes, clock: u8) -> u16
     ensures { Heights (value_counts sizes.now) sizes.now.clocks clock code.now result }
 {
-    let mut rest = code;
     let mut height: u16 = 0;
-    'instructions: while !rest.is_empty() {
-        // a transition formula may hold every mark
-        let Ok(instruction) = next_instruction(rest, 0, sizes, Section::Transition) else {
+    // a transition formula may hold every mark
+    'instructions: for found in Instructions::of(code, 0, sizes, Section::Transition) {
+        let Ok((_, instruction)) = found else {
             return height;
         };
         height = height.max(constant_of(instruction, clock));
-        rest = &rest[width_of(instruction)..];
     }
     height
 }

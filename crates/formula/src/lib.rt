@@ -7,8 +7,10 @@
 
 mod acceptance;
 mod heights;
+mod listing;
 mod stepping;
 
 pub use acceptance::accept;
 pub use heights::highest;
+pub use listing::Instructions;
 pub use stepping::width_of;

@@ -28,27 +28,10 @@ pub(super) fn waiting_after(
 ) -> Result<u32, Fault>
     ensures { result ≡ waits instruction section at waiting }
 {
-    match instruction {
-        Instruction::Not => {
-            if waiting >= 1 {
-                Ok(waiting)
-            } else {
-                Err(Fault::Waiting(section, at))
-            }
-        }
-        Instruction::And | Instruction::Or => {
-            if waiting >= 2 {
-                Ok(waiting - 1)
-            } else {
-                Err(Fault::Waiting(section, at))
-            }
-        }
-        _ => {
-            if waiting < MOST_WAITING {
-                Ok(waiting + 1)
-            } else {
-                Err(Fault::Waiting(section, at))
-            }
-        }
-    }
+    let after = match instruction {
+        Instruction::Not => (waiting >= 1).then_some(waiting),
+        Instruction::And | Instruction::Or => (waiting >= 2).then(|| waiting - 1),
+        _ => (waiting < MOST_WAITING).then(|| waiting + 1),
+    };
+    after.ok_or(Fault::Waiting(section, at))
 }

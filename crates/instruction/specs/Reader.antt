@@ -1,5 +1,5 @@
 -- Reading one instruction: the first rule that is broken counts.
-use Rattle.std.specs.Prelude.{ℕ, ◌+◌, ◌-◌, cond, List, [], ◌∷◌, length, Ok, Err, Result, ◌==◌, nat_le, nat_lt, slice_index}
+use Rattle.std.specs.Prelude.{ℕ, ◌+◌, ◌-◌, cond, List, [], ◌∷◌, length, Some, None, Option, Ok, Err, Result, ◌==◌, nat_le, nat_lt, slice_index}
 use Rattle.instruction.specs.declared.faults.Fault.{Fault}
 use Rattle.instruction.specs.declared.faults.Fault.TheVariants.{UnknownMark, Barred, CutShort, Undeclared, OutOfRange, Waiting}
 use Rattle.instruction.specs.declared.instructions.Compare.{Compare}
@@ -13,6 +13,18 @@ use Rattle.instruction.specs.Marks.{next_allowed, clocks_allowed}
 abbrev pub and_then : {A B : Type 0} → Result A Fault → (A → Result B Fault) → Result B Fault
 and_then (Ok x) f = f x
 and_then (Err e) f = Err e
+
+-- two operands behind the mark
+abbrev pub operands : Section → ℕ → List ℕ → Result (ℕ × ℕ) Fault
+operands s at [] = Err (CutShort s at)
+operands s at (m ∷ []) = Err (CutShort s at)
+operands s at (m ∷ x ∷ []) = Err (CutShort s at)
+operands s at (m ∷ x ∷ y ∷ rest) = Ok (x, y)
+
+-- the first is declared, if it has a bound, and the second is below it
+abbrev pub bounded : Section → ℕ → ℕ → ℕ → Option ℕ → Result (ℕ × ℕ) Fault
+bounded s at x y None = Err (Undeclared s (at + 1))
+bounded s at x y (Some n) = cond (nat_lt y n) (Ok (x, y)) (Err (OutOfRange s (at + 2)))
 
 -- a variable and one of its values, behind the mark
 abbrev pub pair : List ℕ → Section → ℕ → List ℕ → Result (ℕ × ℕ) Fault

@@ -2,14 +2,14 @@
 //
 // Every level of the reader answers with this one enum, so a fault found in an
 // instruction reaches the caller as it was found. A case holds the section and
-// the position where they are not always the same. `refused` turns a case into
-// the three numbers that support looks up.
+// the position where they are not always the same. A `Refusal` has the
+// three numbers that support looks up.
 ghost use Rattle.std.specs.Prelude.{◌≡◌};
-ghost use Rattle.instruction.specs.Faults.{refusal, section_number};
+ghost use Rattle.instruction.specs.Faults.{refusal, told};
 
 use super::sections::Section;
 
-#[derive(Clone, Copy)]
+#[derive(Clone, Copy, Debug, PartialEq, Eq)]
 pub enum Fault {
     // the record ends before a byte that is due
     Ended(Section, usize),
@@ -42,42 +42,43 @@ pub enum Fault {
 }
 
 // A fault as numbers.
-#[derive(Clone, Copy)]
+#[derive(Clone, Copy, Debug, PartialEq, Eq)]
 pub struct Refusal {
     pub number: u8,
     pub section: u8,
     pub position: usize,
 }
 
-fn told(number: u8, section: Section, position: usize) -> Refusal
-    ensures { result ≡ record { number = number; section = section_number section; position = position } }
-{
-    Refusal {
-        number,
-        section: section.number(),
-        position,
+impl Refusal {
+    fn at(number: u8, section: Section, position: usize) -> Refusal
+        ensures { result ≡ told number section position }
+    {
+        Refusal {
+            number,
+            section: section.into(),
+            position,
+        }
     }
 }
 
-impl Fault {
-    // Number, section and position.
-    pub fn refused(self) -> Refusal
-        ensures { result ≡ refusal self }
-    {
-        match self {
-            Fault::Ended(section, at) => told(1, section, at),
-            Fault::TooManyVariables => told(2, Section::Variables, 0),
-            Fault::ValueCount(at) => told(3, Section::Variables, at),
-            Fault::Product(at) => told(4, Section::Variables, at),
-            Fault::TooManyClocks(at) => told(5, Section::Clocks, at),
-            Fault::TooLong(section, at) => told(6, section, at),
-            Fault::UnknownMark(section, at) => told(7, section, at),
-            Fault::Barred(section, at) => told(8, section, at),
-            Fault::CutShort(section, at) => told(9, section, at),
-            Fault::Undeclared(section, at) => told(10, section, at),
-            Fault::OutOfRange(section, at) => told(11, section, at),
-            Fault::Waiting(section, at) => told(12, section, at),
-            Fault::Trailing(at) => told(13, Section::Urgent, at),
+impl From<Fault> for Refusal {
+    ghost from_gives = { λ x r. r ≡ refusal x };
+
+    fn from(fault: Fault) -> Refusal {
+        match fault {
+            Fault::Ended(section, at) => Refusal::at(1, section, at),
+            Fault::TooManyVariables => Refusal::at(2, Section::Variables, 0),
+            Fault::ValueCount(at) => Refusal::at(3, Section::Variables, at),
+            Fault::Product(at) => Refusal::at(4, Section::Variables, at),
+            Fault::TooManyClocks(at) => Refusal::at(5, Section::Clocks, at),
+            Fault::TooLong(section, at) => Refusal::at(6, section, at),
+            Fault::UnknownMark(section, at) => Refusal::at(7, section, at),
+            Fault::Barred(section, at) => Refusal::at(8, section, at),
+            Fault::CutShort(section, at) => Refusal::at(9, section, at),
+            Fault::Undeclared(section, at) => Refusal::at(10, section, at),
+            Fault::OutOfRange(section, at) => Refusal::at(11, section, at),
+            Fault::Waiting(section, at) => Refusal::at(12, section, at),
+            Fault::Trailing(at) => Refusal::at(13, Section::Urgent, at),
             Fault::RunNumbers(step) => Refusal {
                 number: 18,
                 section: 0,

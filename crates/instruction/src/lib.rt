@@ -5,7 +5,9 @@
 // formula, section and record.
 #![tactic(auto)]
 
+mod counts;
 mod faults;
+mod front;
 mod instructions;
 mod sections;
 mod sizes;

@@ -2,8 +2,9 @@
 ghost use Rattle.std.specs.Prelude.{◌≡◌, ◌≤◌, true, take};
 ghost use Rattle.instruction.specs.Sizes.{product, ranged};
 
-// The first `variables` of `counts` are the numbers of values.
-#[derive(Clone, Copy)]
+// The first `variables` of `counts` are the numbers of values; `counts()` has just those. No Vec, since
+// nothing here allocates.
+#[derive(Clone, Copy, Debug, PartialEq, Eq)]
 pub struct Sizes {
     pub counts: [u8; 8],
     pub variables: u8,

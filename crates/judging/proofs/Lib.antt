@@ -2,3 +2,4 @@ pub mod Bits
 pub mod Judged
 pub mod Depends
 pub mod Told
+pub mod Onward

@@ -9,22 +9,22 @@ ghost use Rattle.instruction.specs.Counts.{value_counts};
 ghost use Rattle.judging.specs.Truth.{meets};
 ghost use Rattle.judging.specs.Judging.{after, seen, Judges};
 
-use super::readings::Reading;
+use super::readings::{Reading, Seen};
 use super::sides::Side;
 use super::stack::{lowest, pushed};
-use formula::width_of;
-use instruction::{Compare, Instruction, Section, Sizes, next_instruction};
+use formula::Instructions;
+use instruction::{Compare, Instruction, Section, Sizes};
 
-fn compares(compare: Compare, side: Side) -> bool
+// Whether a clock on that side of a constant compares so with it.
+fn meets(compare: Compare, side: Side) -> bool
     ensures { result ≡ meets compare side }
 {
-    match (compare, side) {
-        (Compare::Less, Side::Below) => true,
-        (Compare::AtMost, Side::Below | Side::At) => true,
-        (Compare::Exactly, Side::At) => true,
-        (Compare::AtLeast, Side::At | Side::Above) => true,
-        (Compare::More, Side::Above) => true,
-        _ => false,
+    match compare {
+        Compare::Less => side == Side::Below,
+        Compare::AtMost => side != Side::Above,
+        Compare::Exactly => side == Side::At,
+        Compare::AtLeast => side != Side::Below,
+        Compare::More => side == Side::Above,
     }
 }
 
@@ -32,28 +32,22 @@ fn compares(compare: Compare, side: Side) -> bool
 fn value_of(values: &[u8; 8], variable: u8) -> u8
     ensures { result ≡ slice_index values.now variable }
 {
-    if variable < 8 {
-        values[variable as usize]
-    } else {
-        0
-    }
+    values.get(variable as usize).copied().unwrap_or(0)
 }
 
 // What waits after an instruction.
-fn applied<R: Reading>(
-    instruction: Instruction,
-    stack: u32,
-    reading: &R,
-    values: &[u8; 8],
-    next: &[u8; 8],
-) -> u32
-    ensures { result ≡ after (seen values.now next.now (R.side reading.now)) instruction stack }
+fn applied<R: Reading>(instruction: Instruction, stack: u32, shown: &Seen<'_, R>) -> u32
+    ensures { result ≡ after (seen shown.now.values.now shown.now.next.now (R.side shown.now.reading.now)) instruction stack }
 {
+    let value = |i| value_of(shown.values, i);
+    let next = |i| value_of(shown.next, i);
     match instruction {
-        Instruction::Is(i, k) => pushed(stack, value_of(values, i) == k),
-        Instruction::Becomes(i, k) => pushed(stack, value_of(next, i) == k),
-        Instruction::Stays(i) => pushed(stack, value_of(next, i) == value_of(values, i)),
-        Instruction::Clock(o, c, j) => pushed(stack, compares(o, reading.side_of(c, j as u16))),
+        Instruction::Is(i, k) => pushed(stack, value(i) == k),
+        Instruction::Becomes(i, k) => pushed(stack, next(i) == k),
+        Instruction::Stays(i) => pushed(stack, next(i) == value(i)),
+        Instruction::Clock(o, c, j) => {
+            pushed(stack, meets(o, shown.reading.side_of(c, u16::from(j))))
+        }
         Instruction::Always => pushed(stack, true),
         Instruction::Not => pushed(stack >> 1, !lowest(stack)),
         Instruction::And => pushed(stack >> 2, lowest(stack >> 1) && lowest(stack)),
@@ -61,25 +55,17 @@ fn applied<R: Reading>(
     }
 }
 
-// Whether a formula holds of the values, the next values and the clocks as they are read.
-pub fn judge<R: Reading>(
-    code: &[u8],
-    sizes: &Sizes,
-    reading: &R,
-    values: &[u8; 8],
-    next: &[u8; 8],
-) -> bool
-    ensures { Judges (value_counts sizes.now) sizes.now.clocks (seen values.now next.now (R.side reading.now)) code.now result }
+// Whether a formula holds of what is seen.
+pub fn judge<R: Reading>(code: &[u8], sizes: &Sizes, shown: &Seen<'_, R>) -> bool
+    ensures { Judges (value_counts sizes.now) sizes.now.clocks (seen shown.now.values.now shown.now.next.now (R.side shown.now.reading.now)) code.now result }
 {
-    let mut rest = code;
     let mut stack: u32 = 0;
-    'instructions: while !rest.is_empty() {
-        // a transition formula may hold every mark
-        let Ok(instruction) = next_instruction(rest, 0, sizes, Section::Transition) else {
+    // a transition formula may hold every mark
+    'instructions: for found in Instructions::of(code, 0, sizes, Section::Transition) {
+        let Ok((_, instruction)) = found else {
             return false;
         };
-        stack = applied(instruction, stack, reading, values, next);
-        rest = &rest[width_of(instruction)..];
+        stack = applied(instruction, stack, shown);
     }
     lowest(stack)
 }

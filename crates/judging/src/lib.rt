@@ -7,5 +7,5 @@ mod sides;
 mod stack;
 
 pub use judgement::judge;
-pub use readings::Reading;
+pub use readings::{Reading, Seen};
 pub use sides::Side;

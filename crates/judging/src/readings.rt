@@ -13,7 +13,15 @@ pub trait Reading {
         ensures { result ≡ side self.now clock constant };
 
     // The law of readings: below a constant is below each larger one, above it is above each
-    // smaller one, at it is both. It does nothing; its contract is the law.
-    fn ordered(&self)
-        ensures { Ordered (side self.now) };
+    // smaller one, at it is both.
+    ghost ordered: { (r : Self) → Ordered (side r) };
+}
+
+// What a formula is judged by: the clocks as they are read, the values of the variables, and their
+// next values.
+#[derive(Clone, Copy)]
+pub struct Seen<'a, R> {
+    pub reading: &'a R,
+    pub values: &'a [u8; 8],
+    pub next: &'a [u8; 8],
 }

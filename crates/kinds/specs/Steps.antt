@@ -1,7 +1,21 @@
--- Step records that are given delays.
-use Rattle.std.specs.Prelude.{◌≡◌, ℕ, ◌<◌, ◌≤◌, List, [], ◌∷◌, map, reverse, length}
+-- Step records: the numbers of their kinds, and records that are given delays.
+use Rattle.std.specs.Prelude.{◌≡◌, ℕ, zero, suc, ◌<◌, ◌≤◌, List, [], ◌∷◌, map, reverse, length, Ok, Err, Result}
 use Rattle.kinds.specs.declared.steps.Step.{Step}
+use Rattle.kinds.specs.declared.steps.StepKind.{StepKind}
+use Rattle.kinds.specs.declared.steps.StepKind.TheVariants.{Elapse, Discrete}
+use Rattle.kinds.specs.declared.steps.UnknownKind.{UnknownKind}
 use Rattle.kinds.specs.Time.{Meaning}
+
+-- the number by which a record tells a kind
+abbrev pub kind_number : StepKind → ℕ
+kind_number Elapse = 0
+kind_number Discrete = 1
+
+-- the kind that a number stands for; no other number stands for one
+abbrev pub kind_of : ℕ → Result StepKind UnknownKind
+kind_of zero = Ok Elapse
+kind_of (suc zero) = Ok Discrete
+kind_of (suc (suc n)) = Err (record { number = suc (suc n) })
 
 abbrev pub delay_of : Step → ℕ
 delay_of p = p.delay

@@ -11,5 +11,5 @@ mod steps;
 mod time;
 
 pub use slots::mixed;
-pub use steps::Step;
+pub use steps::{MOST_STEPS, Step, StepKind, UnknownKind};
 pub use time::Time;

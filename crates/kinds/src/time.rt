@@ -46,7 +46,6 @@ pub trait Time {
     fn delays(&self, start: u16, steps: &mut [Step]) -> u32
         ensures { Delayed (meaning self.now) start steps.old steps.new result };
 
-    // The law of kinds of time. It does nothing; its contract is the law.
-    fn keeps(&self)
-        ensures { Lawful (meaning self.now) };
+    // The law of kinds of time.
+    ghost lawful: { (k : Self) → Lawful (meaning k) };
 }

@@ -10,9 +10,9 @@ use Rattle.model.proofs.Unique.{unique}
 use Rattle.model.proofs.Lies.{lies}
 
 -- the answer from its parts, as the code has them
-pub read_by : (bs ns left : List ℕ) (v n : ℕ) (r : Result Layout Fault) → Ok (ns, n) ≡ sizing bs → length ns ≡ v → left ≡ drop (v + 2) bs → r ≡ sections ns n (length bs) left → r ≡ reading bs
-read_by bs ns left v n r e size cut f =
-    let two : v + 2 ≡ 2 + length ns = omega arith in
+pub read_by : (bs ns left : List ℕ) (n : ℕ) (r : Result Layout Fault) → Ok (ns, n) ≡ sizing bs → left ≡ drop (length ns + 2) bs → r ≡ sections ns n (length bs) left → r ≡ reading bs
+read_by bs ns left n r e cut f =
+    let two : length ns + 2 ≡ 2 + length ns = omega arith in
     let same : left ≡ drop (2 + length ns) bs = cut ∙ ap (λ k. drop k bs) two in
     simp (sym e) (f ∙ ap (sections ns n (length bs)) same)
 

@@ -1,6 +1,4 @@
-pub mod Clips
 pub mod Turns
-pub mod Cutting
 pub mod Whole
 pub mod Formulas
 pub mod Begins

@@ -5,10 +5,6 @@ use Rattle.instruction.specs.declared.sections.Section.TheVariants.{Start, Invar
 use Rattle.model.specs.declared.layout.Span.{Span}
 use Rattle.model.specs.Reading.{Layout, cut, resetting, finish, sections}
 
-pub finish-done : (y : Layout) (end : ℕ) (bs : List ℕ) → length bs ≡ 0 → finish y end bs ≡ Ok y
-finish-done y end [] e = refl
-finish-done y end (b ∷ bs) e = absurd (omega arith)
-
 pub finish-more : (y : Layout) (end : ℕ) (bs : List ℕ) → 0 < length bs → finish y end bs ≡ Err (Trailing (end - length bs))
 finish-more y end [] e = absurd (omega arith)
 finish-more y end (b ∷ bs) e = refl

@@ -5,14 +5,14 @@
 use instruction::Sizes;
 
 // Bytes of a record: the position of the first, and how many they are.
-#[derive(Clone, Copy)]
+#[derive(Clone, Copy, Debug, PartialEq, Eq)]
 pub struct Span {
     pub at: usize,
     pub len: usize,
 }
 
 // A formula of a record by what it is for; a reset formula by its clock.
-#[derive(Clone, Copy)]
+#[derive(Clone, Copy, Debug, PartialEq, Eq)]
 pub enum Role {
     Reset(u8),
     Start,
@@ -21,8 +21,8 @@ pub enum Role {
     Urgent,
 }
 
-// Of `resets`, those of declared clocks count.
-#[derive(Clone, Copy)]
+// Of `resets`, those of declared clocks count. No Vec, since nothing here allocates.
+#[derive(Clone, Copy, Debug, PartialEq, Eq)]
 pub struct Model {
     pub sizes: Sizes,
     pub resets: [Span; 4],

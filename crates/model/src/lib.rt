@@ -7,12 +7,14 @@
 #![tactic(auto)]
 
 mod layout;
+mod packs;
 mod parts;
 mod questions;
 mod records;
 mod sections;
 
 pub use layout::{Model, Role, Span};
+pub use packs::Pack;
 pub use parts::Part;
 pub use questions::read_question;
 pub use records::read;

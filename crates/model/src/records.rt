@@ -3,7 +3,7 @@ ghost use Rattle.model.specs.Reading.{layouts};
 ghost use Rattle.model.specs.Promise.{Reads};
 
 use super::layout::Model;
-use super::sections::read_sections;
+use super::sections::{Left, read_sections};
 use instruction::Fault;
 use sizes::read_sizes;
 
@@ -12,5 +12,9 @@ pub fn read(bytes: &[u8]) -> Result<Model, Fault>
     ensures { Reads bytes.now (layouts result) }
 {
     let sizes = read_sizes(bytes)?;
-    read_sections(&bytes[sizes.variables as usize + 2..], bytes.len(), sizes)
+    read_sections(Left {
+        bytes: &bytes[sizes.counts().len() + 2..],
+        end: bytes.len(),
+        sizes: &sizes,
+    })
 }

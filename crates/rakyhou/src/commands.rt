@@ -30,10 +30,7 @@ pub enum Command {
 }
 
 fn next_word(words: &mut Args) -> Result<String, Failure> {
-    match words.next() {
-        Some(word) => Ok(word),
-        None => Err(Failure::TooFewWords),
-    }
+    words.next().ok_or(Failure::TooFewWords)
 }
 
 fn no_more(mut words: Args) -> Result<(), Failure> {

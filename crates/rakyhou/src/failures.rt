@@ -2,8 +2,11 @@
 //
 // A refused record or run is an answer, so it goes to standard output. Everything else
 // is said on standard error, in one line: what was wrong, and what was expected.
-use super::numbers::{Flaw, Form};
+use super::numbers::Flaw;
+use super::texts::Form;
 use instruction::{Fault, Refusal};
+use std::alloc::{AllocError, AllocFailed};
+use std::error::Error;
 use std::{fmt, io};
 
 const USAGE: &str =
@@ -11,7 +14,7 @@ const USAGE: &str =
 
 const QUESTION: &str = "two hex digits to a byte, or - for no byte";
 
-#[derive(Drop)]
+#[derive(Debug, Drop)]
 pub enum Failure {
     // the words could not be read
     Words(io::Error),
@@ -21,8 +24,12 @@ pub enum Failure {
     TooManyWords,
     // the word for a kind of time
     UnknownTime(String),
-    // a file, why it could not be read, and what was expected in it
-    Unreadable(String, io::Error, &'static str),
+    // a file
+    Unreadable {
+        path: String,
+        error: io::Error,
+        expected: &'static str,
+    },
     // the question's digits
     NoHexDigit(char),
     HalfByte,
@@ -43,9 +50,21 @@ impl From<io::Error> for Failure {
     }
 }
 
+impl From<AllocError> for Failure {
+    fn from(_error: AllocError) -> Failure {
+        Failure::NoMemory
+    }
+}
+
+impl<T: Drop> From<AllocFailed<T>> for Failure {
+    fn from(_error: AllocFailed<T>) -> Failure {
+        Failure::NoMemory
+    }
+}
+
 impl From<Fault> for Failure {
     fn from(fault: Fault) -> Failure {
-        Failure::Refused(fault.refused())
+        Failure::Refused(fault.into())
     }
 }
 
@@ -67,9 +86,11 @@ impl fmt::Display for Failure {
             Failure::UnknownTime(word) => {
                 write!(f, "unknown kind of time {word:?}; expected: {USAGE}")
             }
-            Failure::Unreadable(path, error, what) => {
-                write!(f, "cannot read {path:?}: {error}; expected {what}")
-            }
+            Failure::Unreadable {
+                path,
+                error,
+                expected,
+            } => { write!(f, "cannot read {path:?}: {error}; expected {expected}") }
             Failure::NoHexDigit(c) => {
                 write!(f, "question: {c:?} is no hex digit; expected {QUESTION}")
             }
@@ -103,6 +124,8 @@ impl fmt::Display for Failure {
         }
     }
 }
+
+impl Error for Failure {}
 
 impl Failure {
     // Says what happened. The process ends with status 1 in any case, so a line that cannot be

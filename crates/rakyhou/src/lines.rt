@@ -1,12 +1,15 @@
 // The lines of an answer, one fact to a line.
 use instruction::{Section, Sizes};
-use model::{Model, Role};
+use model::{Pack, Role};
 use std::io;
 use valuations::valuations;
 
+// The roles behind the resets, in the order of a record.
+const OTHERS: [Role; 4] = [Role::Start, Role::Invariant, Role::Transition, Role::Urgent];
+
 fn print_sizes(rt: &impl Print, sizes: &Sizes) -> io::Result<()> {
     print!(rt; "variables")?;
-    for count in sizes.counts.iter().take(sizes.variables as usize) {
+    for count in sizes.counts() {
         print!(rt; " {count}")?;
     }
     println!(rt; "\nclocks {}", sizes.clocks)?;
@@ -24,11 +27,11 @@ fn section_of(role: Role) -> Section {
 }
 
 // Where a formula lies: its section, the position of its first byte, and its length.
-fn print_formula(rt: &impl Print, model: &Model, bytes: &[u8], role: Role) -> io::Result<()> {
-    let Some(part) = model.formula(bytes, role) else {
+fn print_formula(rt: &impl Print, pack: &Pack<'_>, role: Role) -> io::Result<()> {
+    let Some(part) = pack.formula(role) else {
         return Ok(());
     };
-    let section = section_of(role).number();
+    let section = u8::from(section_of(role));
     println!(rt;
         "section {section} position {} length {}",
         part.at,
@@ -37,14 +40,13 @@ fn print_formula(rt: &impl Print, model: &Model, bytes: &[u8], role: Role) -> io
 }
 
 // What a record holds, in its own order.
-pub(super) fn print_model(rt: &impl Print, model: &Model, bytes: &[u8]) -> io::Result<()> {
+pub(super) fn print_pack(rt: &impl Print, pack: &Pack<'_>) -> io::Result<()> {
     println!(rt; "accepted")?;
-    print_sizes(rt, &model.sizes)?;
-    for clock in 0..model.sizes.clocks {
-        print_formula(rt, model, bytes, Role::Reset(clock))?;
+    let sizes = &pack.model.sizes;
+    print_sizes(rt, sizes)?;
+    let resets = (0..sizes.clocks).map(|clock| Role::Reset(clock));
+    for role in resets.chain(OTHERS) {
+        print_formula(rt, pack, role)?;
     }
-    print_formula(rt, model, bytes, Role::Start)?;
-    print_formula(rt, model, bytes, Role::Invariant)?;
-    print_formula(rt, model, bytes, Role::Transition)?;
-    print_formula(rt, model, bytes, Role::Urgent)
+    Ok(())
 }

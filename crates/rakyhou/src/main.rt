@@ -16,44 +16,54 @@ mod walks;
 use commands::{Command, Kind, command_of};
 use dense::Dense;
 use failures::Failure;
-use lines::print_model;
-use model::Model;
+use lines::print_pack;
+use model::Pack;
 use questions::question_of;
 use runs::check_run;
 use std::process::ExitCode;
 use std::{env, fs};
-use texts::{RUN, STEP, text_of};
+use texts::run_of;
 use ticked::Ticked;
-use walks::walk;
+use walks::Walker;
 
 fn bytes_of(rt: &HostRuntime, pack: String) -> Result<Vec<u8>, Failure> {
-    match fs::read(rt, pack.as_str()) {
-        Ok(bytes) => Ok(bytes),
-        Err(error) => Err(Failure::Unreadable(pack, error, "a file with a model record")),
-    }
+    fs::read(rt, pack.as_str()).map_err(|error| Failure::Unreadable {
+        path: pack,
+        error,
+        expected: "a file with a model record",
+    })
 }
 
 fn file_of(rt: &HostRuntime, path: String, expected: &'static str) -> Result<String, Failure> {
-    match fs::read_to_string(rt, path.as_str()) {
-        Ok(text) => Ok(text),
-        Err(error) => Err(Failure::Unreadable(path, error, expected)),
-    }
+    fs::read_to_string(rt, path.as_str()).map_err(|error| Failure::Unreadable {
+        path,
+        error,
+        expected,
+    })
 }
 
 fn read(rt: &HostRuntime, pack: String) -> Result<(), Failure> {
     let bytes = bytes_of(rt, pack)?;
-    let model = model::read(bytes.as_slice())?;
-    print_model(rt, &model, bytes.as_slice())?;
+    let bytes = bytes.as_slice();
+    let model = model::read(bytes)?;
+    let pack = Pack {
+        bytes,
+        model: &model,
+    };
+    print_pack(rt, &pack)?;
     Ok(())
 }
 
 // Whether a run that a text writes is one of a record, and reaches a question.
 fn answer_run(rt: &HostRuntime, bytes: &[u8], question: &[u8], text: &str) -> Result<(), Failure> {
-    let run = text_of(rt.alloc(), text, RUN, STEP)?;
+    let run = run_of(rt.alloc(), text)?;
     let model = model::read(bytes)?;
-    let [start, parts, _] = run.first;
+    let pack = Pack {
+        bytes,
+        model: &model,
+    };
     let steps = run.steps.as_slice();
-    let reached = check_run(bytes, &model, question, start, parts, steps)?;
+    let reached = check_run(&pack, question, run.start, run.parts, steps)?;
     rt.println(if reached { "yes" } else { "no" })?;
     Ok(())
 }
@@ -65,24 +75,24 @@ fn run(rt: &HostRuntime, pack: String, question: &str, steps: String) -> Result<
     answer_run(rt, bytes.as_slice(), question.as_slice(), text.as_str())
 }
 
-fn walk_kind<'a>(
-    rt: &HostRuntime,
-    bytes: &'a [u8],
-    model: &'a Model,
-    text: &str,
-    kind: Kind,
-) -> Result<(), Failure> {
-    let clocks = model.sizes.clocks;
-    match kind {
-        Kind::Dense => walk(rt, &Dense::of(bytes, model), clocks, text),
-        Kind::Ticked => walk(rt, &Ticked::of(bytes, model), clocks, text),
-    }
-}
-
 // A walk that a text writes, in a record.
 fn answer_walk(rt: &HostRuntime, bytes: &[u8], text: &str, kind: Kind) -> Result<(), Failure> {
     let model = model::read(bytes)?;
-    walk_kind(rt, bytes, &model, text, kind)
+    let clocks = model.sizes.clocks;
+    let pack = Pack {
+        bytes,
+        model: &model,
+    };
+    match kind {
+        Kind::Dense => {
+            let kind = &Dense::of(&pack);
+            Walker { rt, kind, clocks }.walk(text)
+        }
+        Kind::Ticked => {
+            let kind = &Ticked::of(&pack);
+            Walker { rt, kind, clocks }.walk(text)
+        }
+    }
 }
 
 fn walk_by_hand(rt: &HostRuntime, pack: String, trials: String, kind: Kind) -> Result<(), Failure> {
@@ -92,11 +102,7 @@ fn walk_by_hand(rt: &HostRuntime, pack: String, trials: String, kind: Kind) -> R
 }
 
 fn carry_out(rt: &HostRuntime) -> Result<(), Failure> {
-    let words = match env::args(rt) {
-        Ok(words) => words,
-        Err(error) => return Err(Failure::Words(error)),
-    };
-    match command_of(words)? {
+    match command_of(env::args(rt).map_err(Failure::Words)?)? {
         Command::Read { pack } => read(rt, pack),
         Command::Run {
             pack,

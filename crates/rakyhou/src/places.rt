@@ -1,68 +1,68 @@
 // Places as the program prints them: `place V`, and then a word for each clock.
 use regions::Clock;
-use std::io;
+use std::fmt;
 use ticked::Ticks;
 
-// What is printed of a clock.
-#[derive(Clone, Copy)]
-pub(super) enum Word {
-    Over,
-    Whole(u16),
-    // whole part and rank
-    Ranked(u16, u8),
+// A clock of a place, as a word.
+pub trait Word: Copy {
+    fn write<W: fmt::Write>(&self, f: &mut fmt::Formatter<W>) -> fmt::Result;
+}
+
+impl Word for Clock {
+    fn write<W: fmt::Write>(&self, f: &mut fmt::Formatter<W>) -> fmt::Result {
+        match *self {
+            Clock::Over => write!(f, "over"),
+            Clock::Counted { whole, rank } => write!(f, "{whole}.{rank}"),
+        }
+    }
+}
+
+impl Word for Ticks {
+    fn write<W: fmt::Write>(&self, f: &mut fmt::Formatter<W>) -> fmt::Result {
+        match *self {
+            Ticks::Over => write!(f, "over"),
+            Ticks::At(whole) => write!(f, "{whole}"),
+        }
+    }
 }
 
 // A place whose clocks can be printed.
 pub trait Shown {
-    fn clocks(&self) -> [Word; 4];
-}
+    type Clock: Word;
 
-fn word_of(clock: Clock) -> Word {
-    match clock {
-        Clock::Over => Word::Over,
-        Clock::Counted { whole, rank } => Word::Ranked(whole, rank),
-    }
-}
-
-fn ticks_of(clock: Ticks) -> Word {
-    match clock {
-        Ticks::Over => Word::Over,
-        Ticks::At(whole) => Word::Whole(whole),
-    }
+    fn clocks(&self) -> &[Self::Clock];
 }
 
 impl Shown for regions::Place {
-    fn clocks(&self) -> [Word; 4] {
-        let [a, b, c, d] = self.clocks;
-        [word_of(a), word_of(b), word_of(c), word_of(d)]
+    type Clock = Clock;
+
+    fn clocks(&self) -> &[Clock] {
+        &self.clocks
     }
 }
 
 impl Shown for ticked::Place {
-    fn clocks(&self) -> [Word; 4] {
-        let [a, b, c, d] = self.clocks;
-        [ticks_of(a), ticks_of(b), ticks_of(c), ticks_of(d)]
+    type Clock = Ticks;
+
+    fn clocks(&self) -> &[Ticks] {
+        &self.clocks
     }
 }
 
-fn print_clock(rt: &HostRuntime, clock: Word) -> io::Result<()> {
-    match clock {
-        Word::Over => rt.print(" over"),
-        Word::Whole(whole) => print!(rt; " {whole}"),
-        Word::Ranked(whole, rank) => print!(rt; " {whole}.{rank}"),
-    }
+// A place by its valuation and its declared clocks.
+#[derive(Clone, Copy)]
+pub(super) struct Told<'a, C> {
+    pub valuation: u16,
+    pub clocks: &'a [C],
 }
 
-// A place with so many of its clocks.
-pub(super) fn print_place(
-    rt: &HostRuntime,
-    valuation: u16,
-    words: [Word; 4],
-    clocks: u8,
-) -> io::Result<()> {
-    print!(rt; "place {valuation}")?;
-    for word in &words[0..clocks.min(4) as usize] {
-        print_clock(rt, *word)?;
+impl<'a, C: Word> fmt::Display for Told<'a, C> {
+    fn fmt<W: fmt::Write>(&self, f: &mut fmt::Formatter<W>) -> fmt::Result {
+        write!(f, "place {}", self.valuation)?;
+        for clock in self.clocks {
+            write!(f, " ")?;
+            clock.write(f)?;
+        }
+        Ok(())
     }
-    rt.println("")
 }

@@ -6,18 +6,9 @@ use std::alloc::Global;
 const NONE: &str = "-";
 
 fn digit_of(c: char) -> Result<u8, Failure> {
-    match c {
-        '0'..='9' => Ok((c as u32 - '0' as u32) as u8),
-        'a'..='f' => Ok((c as u32 - 'a' as u32 + 10) as u8),
-        'A'..='F' => Ok((c as u32 - 'A' as u32 + 10) as u8),
-        _ => Err(Failure::NoHexDigit(c)),
-    }
-}
-
-fn add_byte(bytes: &mut Vec<u8>, high: u8, low: u8) -> Result<(), Failure> {
-    match bytes.push((high & 15) << 4 | low) {
-        Ok(()) => Ok(()),
-        Err(_) => Err(Failure::NoMemory),
+    match c.to_digit(16) {
+        Some(digit) => Ok(digit as u8),
+        None => Err(Failure::NoHexDigit(c)),
     }
 }
 
@@ -26,13 +17,10 @@ fn add_bytes(bytes: &mut Vec<u8>, digits: &str) -> Result<(), Failure> {
     let mut high = None;
     for c in digits.chars() {
         let digit = digit_of(c)?;
-        high = match high {
-            None => Some(digit),
-            Some(high) => {
-                add_byte(bytes, high, digit)?;
-                None
-            }
-        };
+        match high.take() {
+            None => high = Some(digit),
+            Some(high) => bytes.push(high << 4 | digit)?,
+        }
     }
     match high {
         None => Ok(()),

@@ -1,154 +1,101 @@
 // Walks by hand: a start trial, and then step trials, each from the place that was reached.
 use super::failures::Failure;
-use super::places::{Shown, print_place};
-use super::texts::{text_of, trial_below};
-use kinds::{Step, Time};
+use super::places::{Shown, Told};
+use super::texts::{Trials, Walk, walk_of};
+use kinds::{Step, StepKind, Time};
 use std::io;
 
-// The kinds of steps.
-const ELAPSE: u8 = 0;
-
-const DISCRETE: u8 = 1;
-
-// The most steps of a chain.
-const MOST_STEPS: usize = 65534;
-
-// Prints what a trial gave.
-fn print_given<K: Time>(
-    rt: &HostRuntime,
-    kind: &K,
-    given: Option<K::Place>,
-    clocks: u8,
-) -> io::Result<()>
-where
-    K::Place: Shown,
-{
-    match given {
-        Some(place) => print_place(rt, kind.valuation(place), place.clocks(), clocks),
-        None => rt.println("nothing"),
-    }
-}
-
-fn step_from<K: Time>(kind: &K, at: Option<K::Place>, trial: u16) -> Option<K::Place> {
-    match at {
-        Some(place) => kind.step(place, trial),
-        None => None,
-    }
+// A kind of time to walk in, where so many clocks are declared.
+#[derive(Clone, Copy)]
+pub(super) struct Walker<'a, K> {
+    pub rt: &'a HostRuntime,
+    pub kind: &'a K,
+    pub clocks: u8,
 }
 
 // A step that was taken, with the number of its trial for a delay.
 fn step_into<K: Time>(kind: &K, place: K::Place, trial: u16) -> Step {
+    let step = if kind.elapses(trial) {
+        StepKind::Elapse
+    } else {
+        StepKind::Discrete
+    };
     Step {
-        kind: if kind.elapses(trial) {
-            ELAPSE
-        } else {
-            DISCRETE
-        },
+        kind: step.into(),
         valuation: kind.valuation(place) as u32,
         delay: trial as u32,
     }
 }
 
-// Notes a step at a place of the records, if it was taken, and says how many are noted then.
-fn noted<K: Time>(
-    kind: &K,
-    steps: &mut [Step],
-    count: usize,
-    given: Option<K::Place>,
-    trial: u16,
-) -> usize {
-    match given {
-        Some(place) if count < steps.len() => {
-            steps[count] = step_into(kind, place, trial);
-            count.saturating_add(1)
+impl<'a, K: Time> Walker<'a, K>
+where
+    K::Place: Shown,
+{
+    // Prints what a trial gave.
+    fn print(&self, given: Option<K::Place>) -> io::Result<()> {
+        let Some(place) = given else {
+            return self.rt.println("nothing");
+        };
+        let clocks = place.clocks();
+        let declared = clocks.len().min(self.clocks as usize);
+        self.rt.println(Told {
+            valuation: self.kind.valuation(place),
+            clocks: &clocks[..declared],
+        })
+    }
+
+    // Walks from a place, prints what each trial gives, and adds the steps that were taken. After
+    // nothing the walk goes on from the place before.
+    fn walk_from(
+        &self,
+        from: Option<K::Place>,
+        trials: &[u16],
+        steps: &mut Vec<Step>,
+    ) -> Result<(), Failure> {
+        let mut at = from;
+        for trial in trials {
+            let given = at.and_then(|place| self.kind.step(place, *trial));
+            self.print(given)?;
+            if let Some(place) = &given {
+                steps.push(step_into(self.kind, *place, *trial))?;
+                at = given;
+            }
         }
-        _ => count,
+        Ok(())
     }
-}
 
-// Walks the trials that the records have for delays from a place, prints what each gives, and leaves the
-// steps that were taken in the first records. Says how many they are. After nothing the walk goes on
-// from the place before.
-fn walk_steps<K: Time>(
-    rt: &HostRuntime,
-    kind: &K,
-    clocks: u8,
-    from: Option<K::Place>,
-    steps: &mut [Step],
-) -> io::Result<usize>
-where
-    K::Place: Shown,
-{
-    let mut at = from;
-    let mut count = 0usize;
-    for i in 0..steps.len() {
-        let trial = steps[i].delay.min(65535) as u16;
-        let given = step_from(kind, at, trial);
-        print_given(rt, kind, given, clocks)?;
-        count = noted(kind, steps, count, given, trial);
-        at = given.or(at);
-    }
-    Ok(count)
-}
-
-fn print_elapses(rt: &HostRuntime, steps: &[Step]) -> io::Result<()> {
-    for step in steps {
-        if step.kind == ELAPSE {
-            println!(rt; "delay {}", step.delay)?;
+    // Prints how long the steps of a walk may take: the parts of a unit, and the delay of each step in
+    // which time passes.
+    fn print_delays(&self, start: u16, steps: &mut [Step]) -> io::Result<()> {
+        let parts = self.kind.delays(start, steps);
+        println!(self.rt; "denominator {parts}")?;
+        for step in steps {
+            if step.kind == u8::from(StepKind::Elapse) {
+                println!(self.rt; "delay {}", step.delay)?;
+            }
         }
+        Ok(())
     }
-    Ok(())
-}
 
-// Prints how long the steps of a walk may take: the parts of a unit, and the delay of each step in
-// which time passes.
-fn print_delays<K: Time>(
-    rt: &HostRuntime,
-    kind: &K,
-    start: u16,
-    steps: &mut [Step],
-) -> io::Result<()> {
-    let parts = kind.delays(start, steps);
-    println!(rt; "denominator {parts}")?;
-    print_elapses(rt, steps)
-}
-
-fn walk_from<K: Time>(
-    rt: &HostRuntime,
-    kind: &K,
-    clocks: u8,
-    start: u16,
-    steps: &mut [Step],
-) -> io::Result<()>
-where
-    K::Place: Shown,
-{
-    let from = kind.start(start);
-    print_given(rt, kind, from, clocks)?;
-    let count = walk_steps(rt, kind, clocks, from, steps)?;
-    if from.is_none() {
-        return Ok(());
+    // Room for the steps is made before the first line is printed, so that a failure prints none.
+    fn walk_all(&self, walk: &Walk) -> Result<(), Failure> {
+        let mut steps = Vec::with_capacity(self.rt.alloc(), walk.trials.len())?;
+        let from = self.kind.start(walk.start);
+        self.print(from)?;
+        self.walk_from(from, walk.trials.as_slice(), &mut steps)?;
+        if from.is_some() {
+            self.print_delays(walk.start, steps.as_mut_slice())?;
+        }
+        Ok(())
     }
-    let taken = count.min(steps.len());
-    print_delays(rt, kind, start, &mut steps[0..taken])
-}
 
-// Walks the trials of a text.
-pub(super) fn walk<K: Time>(
-    rt: &HostRuntime,
-    kind: &K,
-    clocks: u8,
-    text: &str,
-) -> Result<(), Failure>
-where
-    K::Place: Shown,
-{
-    let starts = trial_below(kind.start_trials());
-    let mut text = text_of(rt.alloc(), text, starts, trial_below(kind.step_trials()))?;
-    if text.steps.len() > MOST_STEPS {
-        return Err(Failure::TooManyLines);
+    // Walks the trials of a text.
+    pub(super) fn walk(&self, text: &str) -> Result<(), Failure> {
+        let most = Trials {
+            starts: self.kind.start_trials(),
+            steps: self.kind.step_trials(),
+        };
+        let walk = walk_of(self.rt.alloc(), text, most)?;
+        self.walk_all(&walk)
     }
-    let start = text.first[0].min(65535) as u16;
-    walk_from(rt, kind, clocks, start, text.steps.as_mut_slice())?;
-    Ok(())
 }

@@ -1,11 +1,9 @@
 -- Closing the gaps looks at the first n clocks alone, and gives no rank past n.
-use Rattle.std.proofs.Common.{◌≡◌, ℕ, zero, suc, ◌+◌, ◌<◌, ◌≤◌, cond, ◌||◌, eqb, leb, List, [], ◌∷◌, refl, ap, ◌∙◌, arith}
+use Rattle.std.proofs.Common.{◌≡◌, ℕ, zero, suc, ◌+◌, ◌<◌, ◌≤◌, cond, ◌||◌, eqb, leb, refl, ap, ◌∙◌, arith}
 use Rattle.std.proofs.lemmas.Bool.Decides.{nat_tests}
 use Rattle.regions.specs.declared.clocks.Clock.{Clock}
 use Rattle.regions.specs.declared.clocks.Clock.TheVariants.{Over, Counted}
 use Rattle.regions.specs.Regions.{rank_of, renamed, used, closed, tidy}
-use Rattle.regions.specs.Clocks.{at, four_of, capped}
-use Rattle.regions.proofs.Fours.{below-four, same-four}
 
 used-same : (n : ℕ) (f g : ℕ → Clock) → ((c : ℕ) → c < n → f c ≡ g c) → (k : ℕ) → used n f k ≡ used n g k
 unfolding used
@@ -29,14 +27,6 @@ renamed-same φ ψ h (Counted w r) = ap (λ k. Counted w k) (h r)
 pub tidy-same : (n : ℕ) (f g : ℕ → Clock) → ((c : ℕ) → c < n → f c ≡ g c) → (c : ℕ) → c < n → tidy n f c ≡ tidy n g c
 tidy-same n f g h c i =
     ap (renamed (closed n f)) (h c i) ∙ renamed-same (closed n f) (closed n g) (closed_same n f g h) (g c)
-
--- closing up a list that is written out
-pub listed : (f : ℕ → Clock) (a b c d : Clock) (r : List Clock) → a ≡ f 0 → b ≡ f 1 → c ≡ f 2 → d ≡ f 3 → r ≡ four_of (tidy 4 (λ k. capped (at (a ∷ b ∷ c ∷ d ∷ []) k))) → r ≡ four_of (tidy 4 (λ k. capped (f k)))
-listed f a b c d r e0 e1 e2 e3 e =
-    let g : ℕ → Clock = λ k. capped (at (a ∷ b ∷ c ∷ d ∷ []) k) in
-    e
-    ∙ same-four (tidy 4 g) (tidy 4 (λ k. capped (f k)))
-    (tidy-same 4 g (λ k. capped (f k)) (below-four (λ k. g k ≡ capped (f k)) (ap capped e0) (ap capped e1) (ap capped e2) (ap capped e3)))
 
 -- no more ranks are in use than there are clocks
 grows : (n : ℕ) (ps : ℕ → Clock) (r : ℕ) → closed (suc n) ps r ≤ closed n ps r + cond (leb (rank_of (ps n)) r) 1 0

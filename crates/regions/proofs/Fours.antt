@@ -33,9 +33,6 @@ four (a ∷ b ∷ c ∷ []) h = absurd (omega arith)
 four (a ∷ b ∷ c ∷ d ∷ []) h = refl
 four (a ∷ b ∷ c ∷ d ∷ e ∷ p) h = absurd (omega arith)
 
-pub four-by : (f : ℕ → Clock) (a b c d : Clock) → a ≡ f 0 → b ≡ f 1 → c ≡ f 2 → d ≡ f 3 → a ∷ b ∷ c ∷ d ∷ [] ≡ four_of f
-four-by f a b c d e0 e1 e2 e3 = cc
-
 pub at-four : (f : ℕ → Clock) (c : ℕ) → c < 4 → at (four_of f) c ≡ f c
 at-four f = below-four (λ c. at (four_of f) c ≡ f c) refl refl refl refl
 

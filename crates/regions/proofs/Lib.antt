@@ -5,6 +5,6 @@ pub mod Alike
 pub mod Waiting
 pub mod Keeping
 pub mod Padding
-pub mod Law
 pub mod Same
 pub mod Told
+pub mod Mixing

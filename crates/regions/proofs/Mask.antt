@@ -1,5 +1,5 @@
 -- A mask of ranks, and the number of its ones up to a bit.
-use Rattle.std.proofs.Common.{◌≡◌, ℕ, zero, suc, ◌+◌, ◌-◌, ◌*◌, ◌/◌, ◌%◌, ◌^◌, ◌<◌, min, max, Bool, true, false, cond, ◌||◌, eqb, List, [], ◌∷◌, sym, refl, ap, ◌∙◌, pow-suc, one-add, arith}
+use Rattle.std.proofs.Common.{◌≡◌, ℕ, zero, suc, ◌+◌, ◌-◌, ◌*◌, ◌/◌, ◌%◌, ◌^◌, ◌<◌, min, max, Bool, true, false, cond, ◌||◌, eqb, sym, refl, ap, ◌∙◌, pow-suc, one-add, arith}
 use native.Mathlib.Nat.{div-eq_of_lt, div_self, zero-div, mod-one}
 use lib.Bits.{bit_or, or_step, or_shr}
 use lib.Count.{ones, ones_in, ones_cat}
@@ -7,10 +7,9 @@ use Rattle.std.proofs.lemmas.Bool.Decides.{nat_tests}
 use Rattle.std.proofs.lemmas.Nat.{pow_pos, pow-add, shl-shr, shr-shr, mod-pow-add, mod_below, pow_below}
 use Rattle.regions.specs.declared.clocks.Clock.{Clock}
 use Rattle.regions.specs.declared.clocks.Clock.TheVariants.{Over, Counted}
-use Rattle.regions.specs.Clocks.{capped, bit_of, mask_of, ones_to, at, four_of}
+use Rattle.regions.specs.Clocks.{capped, bit_of, mask_of, ones_to, four_of}
 use Rattle.regions.specs.Regions.{rank_of, renamed, used, closed, tidy}
 use Rattle.regions.proofs.Closing.{renamed-same}
-use Rattle.regions.proofs.Fours.{four-by}
 
 or-bit : (a b k : ℕ) → bit_or a b / 2 ^ k % 2 ≡ max (a / 2 ^ k % 2) (b / 2 ^ k % 2)
 or-bit a b k =
@@ -88,9 +87,3 @@ tidied ps =
     let e2 = e (capped (ps 2)) in
     let e3 = e (capped (ps 3)) in
     cc
-
-pub closes : (ps : List Clock) (m : ℕ) (a b c d : Clock) → m ≡ mask_of 4 (at ps) → a ≡ renamed (ones_to m) (capped (at ps 0)) → b ≡ renamed (ones_to m) (capped (at ps 1)) → c ≡ renamed (ones_to m) (capped (at ps 2)) → d ≡ renamed (ones_to m) (capped (at ps 3)) → a ∷ b ∷ c ∷ d ∷ [] ≡ four_of (tidy 4 (λ c. capped (at ps c)))
-closes ps m a b c d e e0 e1 e2 e3 =
-    four-by (λ k. renamed (ones_to m) (capped (at ps k))) a b c d e0 e1 e2 e3
-    ∙ ap (λ n. four_of (λ k. renamed (ones_to n) (capped (at ps k)))) e
-    ∙ tidied (at ps)

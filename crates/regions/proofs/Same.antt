@@ -1,12 +1,11 @@
 -- Same places are equal, and equal ones the same.
-use Rattle.std.proofs.Common.{◌≡◌, ℕ, Bool, true, false, ◌&&◌, eqb, List, [], ◌∷◌, length, sym, refl, ap, ◌∙◌, arith}
+use Rattle.std.proofs.Common.{◌≡◌, ℕ, Bool, true, false, ◌&&◌, eqb, List, [], ◌∷◌, refl, ap, ◌∙◌, arith}
+use Rattle.std.specs.Cmp.Lexicographic.{pointwise}
 use Rattle.std.proofs.lemmas.Bool.Decides.{nat_tests}
 use Rattle.regions.specs.declared.clocks.Clock.{Clock}
 use Rattle.regions.specs.declared.clocks.Clock.TheVariants.{Over, Counted}
 use Rattle.regions.specs.declared.places.Place.{Place}
-use Rattle.regions.specs.Clocks.{at, four_of}
 use Rattle.regions.specs.Sameness.{same_clock, same_clocks, same_place}
-use Rattle.regions.proofs.Fours.{four}
 
 never : {A : Type 0} → false ≡ true → A
 never e = let z : ◌≡◌ {A = ℕ} 0 1 = cc in absurd (omega arith)
@@ -65,12 +64,10 @@ same-is p q e =
 pub same-itself : (p : Place) → same_place p p ≡ true
 same-itself p = joins (eqb p.valuation p.valuation) (same_clocks p.clocks p.clocks) (number-itself p.valuation) (clocks-themselves p.clocks)
 
-four_are : (f g : ℕ → Clock) (w x y z : Bool) → w ≡ same_clock (f 0) (g 0) → x ≡ same_clock (f 1) (g 1) → y ≡ same_clock (f 2) (g 2) → z ≡ same_clock (f 3) (g 3) → (w && (x && (y && z))) ≡ same_clocks (four_of f) (four_of g)
+-- clock by clock by a test that is sameness
+pub pointed : (f : Clock → Clock → Bool) → ((p q : Clock) → f p q ≡ same_clock p q) → (ps qs : List Clock) → pointwise f ps qs ≡ same_clocks ps qs
 unfolding same_clocks
-four_are f g w x y z d e h i = grind arith
-
-pub fours-are : (p q : List Clock) → length p ≡ 4 → length q ≡ 4 → (w x y z : Bool) → w ≡ same_clock (at p 0) (at q 0) → x ≡ same_clock (at p 1) (at q 1) → y ≡ same_clock (at p 2) (at q 2) → z ≡ same_clock (at p 3) (at q 3) → (w && (x && (y && z))) ≡ same_clocks p q
-fours-are p q m n w x y z d e h i =
-    four_are (at p) (at q) w x y z d e h i
-    ∙ ap (λ l. same_clocks l (four_of (at q))) (sym (four p m))
-    ∙ ap (λ l. same_clocks p l) (sym (four q n))
+pointed f h [] [] = refl
+pointed f h [] (q ∷ qs) = refl
+pointed f h (p ∷ ps) [] = refl
+pointed f h (p ∷ ps) (q ∷ qs) = ap (λ b. b && pointwise f ps qs) (h p q) ∙ ap (λ b. same_clock p q && b) (pointed f h ps qs)

@@ -4,3 +4,4 @@ pub mod Gaps
 pub mod Sameness
 pub mod Slots
 pub mod Promise
+pub mod Laws

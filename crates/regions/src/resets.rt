@@ -1,27 +1,36 @@
 // A discrete step sets clocks to 0.
 ghost use Rattle.std.specs.Prelude.{◌≡◌};
-ghost use Rattle.regions.specs.Clocks.{restarted};
+ghost use Rattle.regions.specs.Clocks.{at, four_of, hit, restarted};
 ghost use Rattle.regions.specs.Promise.{Cleared};
 
 use super::clocks::Clock;
 use super::gaps::close_up;
+use std::array;
 
-fn restart(clock: Clock, hit: bool) -> Clock
-    ensures { result ≡ restarted hit clock }
-{
-    if hit {
-        Clock::Counted { whole: 0, rank: 0 }
-    } else {
-        clock
+impl Clock {
+    // Set to 0, if a reset hits it.
+    fn restart(self, hit: bool) -> Clock
+        ensures { result ≡ restarted hit self }
+    {
+        if hit {
+            Clock::Counted { whole: 0, rank: 0 }
+        } else {
+            self
+        }
     }
+}
+
+// The clocks that are reset are 0, and the rest are kept.
+fn restarts(clocks: [Clock; 4], resets: [bool; 4]) -> [Clock; 4]
+    ensures { result ≡ four_of (λ c. restarted (hit resets c) (at clocks c)) }
+{
+    array::from_fn(|c| clocks[c].restart(resets[c]))
 }
 
 // The clocks after a discrete step: those that it resets are 0.
 pub fn reset(clocks: [Clock; 4], resets: [bool; 4]) -> [Clock; 4]
     ensures { Cleared resets clocks result }
 {
-    let [a, b, c, d] = clocks;
-    let [i, j, k, l] = resets;
-    let kept = [restart(a, i), restart(b, j), restart(c, k), restart(d, l)];
+    let kept = restarts(clocks, resets);
     close_up(kept)
 }

@@ -1,6 +1,5 @@
 pub mod Instants
 pub mod Four
-pub mod Sides
 pub mod Lasting
 pub mod Taking
 pub mod Following

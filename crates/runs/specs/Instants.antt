@@ -26,6 +26,10 @@ pub record Soon (x D ceiling t : ℕ) : Type 0 where
   pub low : passed * D ≤ x
   pub high : passed < ceiling → x + t ≤ (passed + 1) * D
 
+-- of each of four clocks
+abbrev pub Every4 : (ℕ → Type 0) → Type 0
+Every4 P = P 0 × P 1 × P 2 × P 3
+
 -- so of four clocks, and the wait is not 0
 pub record Soonest (D : ℕ) (xs ms : List ℕ) (t : ℕ) : Type 0 where
   pub some : 1 ≤ t

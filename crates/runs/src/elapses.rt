@@ -1,62 +1,57 @@
 // Elapse steps: whether the invariant lasts over a whole delay.
-ghost use Rattle.std.specs.Prelude.{◌≡◌, ◌≤◌, slice_index};
-ghost use Rattle.ceilings.specs.Ceilings.{ceiling_at};
-ghost use Rattle.model.specs.Reading.{layout};
-ghost use Rattle.runs.specs.Runs.{four_of};
+ghost use Rattle.std.specs.Prelude.{◌≡◌, slice_index};
 ghost use Rattle.tables.specs.Tables.{lasting};
+ghost use Rattle.runs.specs.Courses.{lasting_in};
 ghost use Rattle.runs.specs.Instants.{Always, Room, Tells, sides_at};
 
+use super::courses::Course;
 use super::moments::Moment;
 use super::waits::{grown, just_after, soonest};
-use model::{Model, Role};
+use judging::Seen;
+use model::{Pack, Role};
 use tables::says;
 
-// Whether the invariant holds where the clocks stand so.
-pub(super) fn valid(
-    bytes: &[u8],
-    model: &Model,
-    values: &[u8; 8],
-    clocks: [u64; 4],
-    unit: u32,
-) -> bool
-    requires { 1 ≤ unit }
-    ensures { result ≡ lasting bytes.now model.now values.now (sides_at unit (λ c. slice_index clocks c)) }
+// Whether the invariant holds at a moment.
+pub(super) fn valid(pack: &Pack<'_>, values: &[u8; 8], moment: &Moment) -> bool
+    ensures { result ≡ lasting pack.now.bytes.now pack.now.model.now values.now (sides_at moment.now.unit (λ c. slice_index moment.now.clocks c)) }
 {
-    let moment = Moment { clocks, unit };
-    says(bytes, model, Role::Invariant, &moment, values, values)
+    let shown = Seen {
+        reading: moment,
+        values,
+        next: values,
+    };
+    says(pack, Role::Invariant, &shown)
 }
 
-// Whether the invariant holds at every moment after more than 0 and up to `delay` parts.
-pub(super) fn lasts(
-    bytes: &[u8],
-    model: &Model,
-    ceilings: [u16; 4],
-    values: &[u8; 8],
-    mut clocks: [u64; 4],
-    unit: u32,
-    mut delay: u64,
-) -> bool
-    requires some { 1 ≤ unit }
-    requires few { unit ≤ 65535 }
-    requires room { Room delay clocks }
-    requires heights { ceilings ≡ four_of (ceiling_at bytes.now (layout model.now)) }
-    ensures { Tells result (Always (lasting bytes.now model.now values.now) unit (λ c. slice_index clocks c) delay) }
-{
-    'events: while delay > 0 {
-        let after = just_after(clocks);
-        if !valid(bytes, model, values, after, 2 * unit) {
-            return false;
+impl Course<'_> {
+    // Whether the invariant holds at every moment after more than 0 and up to `delay` parts.
+    pub(super) fn lasts(&self, values: &[u8; 8], mut clocks: [u64; 4], mut delay: u64) -> bool
+        requires { Room delay clocks }
+        ensures { Tells result (Always (lasting_in self.now values.now) self.now.unit (λ c. slice_index clocks c) delay) }
+    {
+        let pack = self.setting.pack;
+        'events: while delay > 0 {
+            let after = Moment {
+                clocks: just_after(clocks),
+                unit: 2 * self.unit,
+            };
+            if !valid(&pack, values, &after) {
+                return false;
+            }
+            let wait = soonest(clocks, self.unit, self.setting.ceilings);
+            if wait > delay {
+                return true;
+            }
+            let met = Moment {
+                clocks: grown(clocks, wait),
+                unit: self.unit,
+            };
+            if !valid(&pack, values, &met) {
+                return false;
+            }
+            clocks = met.clocks;
+            delay -= wait;
         }
-        let wait = soonest(clocks, unit, ceilings);
-        if wait > delay {
-            return true;
-        }
-        let met = grown(clocks, wait);
-        if !valid(bytes, model, values, met, unit) {
-            return false;
-        }
-        clocks = met;
-        delay -= wait;
+        true
     }
-    true
 }

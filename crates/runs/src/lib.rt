@@ -6,6 +6,7 @@
 #![tactic(auto)]
 
 mod checking;
+mod courses;
 mod elapses;
 mod moments;
 mod moves;

@@ -11,33 +11,22 @@ pub struct Moment {
     ghost some: { 1 ≤ unit },
 }
 
-fn clock_of(clocks: [u64; 4], clock: u8) -> u64
-    ensures { result ≡ slice_index clocks clock }
-{
-    if clock < 4 { clocks[clock as usize] } else { 0 }
-}
-
+// Where a number of parts stands to another.
 fn compare(x: u64, y: u64) -> Side
     ensures { result ≡ compared x y }
 {
-    if x < y {
-        Side::Below
-    } else if x == y {
-        Side::At
-    } else {
-        Side::Above
-    }
+    x.cmp(&y).into()
 }
 
 impl Reading for Moment {
+    ghost use Rattle.runs.specs.Sides.{moment_ordered};
+
     ghost side = { λ s c j. compared (slice_index s.clocks c) (j * s.unit) };
 
     fn side_of(&self, clock: u8, constant: u16) -> Side {
-        compare(
-            clock_of(self.clocks, clock),
-            constant as u64 * self.unit as u64,
-        )
+        let parts = self.clocks.get(clock as usize).copied().unwrap_or(0);
+        compare(parts, u64::from(constant) * u64::from(self.unit))
     }
 
-    fn ordered(&self) {}
+    ghost ordered = { moment_ordered };
 }

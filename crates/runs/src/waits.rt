@@ -5,7 +5,9 @@
 // a part after such a moment, and at the next one.
 ghost use Rattle.std.specs.Prelude.{◌≡◌, ◌+◌, ◌*◌, ◌^◌, ◌<◌, ◌≤◌, slice_index};
 ghost use Rattle.runs.specs.Runs.{four_of};
-ghost use Rattle.runs.specs.Instants.{Soon, Soonest, Room};
+ghost use Rattle.runs.specs.Instants.{Every4, Soon, Soonest, Room};
+
+use std::array;
 
 // Parts to the next whole number, if that is up to the ceiling; else more than any delay.
 fn next_whole(clock: u64, unit: u32, ceiling: u16) -> u64
@@ -21,15 +23,23 @@ fn next_whole(clock: u64, unit: u32, ceiling: u16) -> u64
     }
 }
 
+// The same of each clock.
+fn next_wholes(clocks: [u64; 4], unit: u32, ceilings: [u16; 4]) -> [u64; 4]
+    requires { 1 ≤ unit }
+    ensures some { Every4 (λ c. 1 ≤ slice_index result c) }
+    ensures soon { Every4 (λ c. Soon (slice_index clocks c) unit (slice_index ceilings c) (slice_index result c)) }
+{
+    array::from_fn(|c| next_whole(clocks[c], unit, ceilings[c]))
+}
+
 // Parts until some clock meets a whole number up to its ceiling.
 pub(super) fn soonest(clocks: [u64; 4], unit: u32, ceilings: [u16; 4]) -> u64
     requires { 1 ≤ unit }
     ensures { Soonest unit clocks ceilings result }
 {
-    let [a, b, c, d] = clocks;
-    let [i, j, k, l] = ceilings;
-    let first = next_whole(a, unit, i).min(next_whole(b, unit, j));
-    first.min(next_whole(c, unit, k).min(next_whole(d, unit, l)))
+    // four by name: the proof of an iterator's `min` over them was tried and did not close
+    let [a, b, c, d] = next_wholes(clocks, unit, ceilings);
+    a.min(b).min(c.min(d))
 }
 
 // All clocks `by` parts later.
@@ -37,8 +47,7 @@ pub(super) fn grown(clocks: [u64; 4], by: u64) -> [u64; 4]
     requires { Room by clocks }
     ensures { result ≡ four_of (λ c. slice_index clocks c + by) }
 {
-    let [a, b, c, d] = clocks;
-    [a + by, b + by, c + by, d + by]
+    array::from_fn(|c| clocks[c] + by)
 }
 
 // All clocks half a part later, in half parts.
@@ -46,6 +55,5 @@ pub(super) fn just_after(clocks: [u64; 4]) -> [u64; 4]
     requires { Room 0 clocks }
     ensures { result ≡ four_of (λ c. 2 * slice_index clocks c + 1) }
 {
-    let [a, b, c, d] = clocks;
-    [2 * a + 1, 2 * b + 1, 2 * c + 1, 2 * d + 1]
+    array::from_fn(|c| 2 * clocks[c] + 1)
 }

@@ -153,9 +153,9 @@ sizing-refused bs x e =
         at_rest ns d.rest d.bytes d.few d.countable (subst (λ t. clock_count (length bs) t ≡ Err x) r f)
 
 -- the same as the code cuts the bytes
-module _ (bs ns left : List ℕ) (v : ℕ) (given : Ok ns ≡ variables bs) (size : length ns ≡ v) (cut : left ≡ drop (v + 1) bs) where
+module _ (bs ns left : List ℕ) (given : Ok ns ≡ variables bs) (cut : left ≡ drop (length ns + 1) bs) where
   same_left : left ≡ drop (1 + length ns) bs
-  same_left = let e : v + 1 ≡ 1 + length ns = omega arith in cut ∙ ap (λ k. drop k bs) e
+  same_left = let e : length ns + 1 ≡ 1 + length ns = omega arith in cut ∙ ap (λ k. drop k bs) e
 
   pub sizes-by : (n : ℕ) → Ok n ≡ clock_count (length bs) left → Ok (ns, n) ≡ sizing bs
   sizes-by n e =

@@ -23,51 +23,42 @@ const MOST_VALUATIONS: u16 = 1024;
 
 const MOST_CLOCKS: u8 = 4;
 
-#[derive(Clone, Copy)]
-struct Counts {
-    counts: [u8; 8],
-    variables: u8,
-}
-
 // The product with one number of values more.
 fn product_with(product: u16, values: u8, at: usize) -> Result<u16, Fault>
     requires { product ≤ 1024 }
     ensures { result ≡ counted at product values }
 {
-    if values < FEWEST_VALUES || values > MOST_VALUES {
+    if !(FEWEST_VALUES..=MOST_VALUES).contains(&values) {
         return Err(Fault::ValueCount(at));
     }
-    let product = product * values as u16;
+    let product = product * u16::from(values);
     if product > MOST_VALUATIONS {
         return Err(Fault::Product(at));
     }
     Ok(product)
 }
 
-// Section 1.
-fn read_counts(bytes: &[u8]) -> Result<Counts, Fault>
-    ensures fits { IfOk result (λ c. (c.variables ≤ 8) × (c.variables + 1 ≤ length bytes.now)) }
+// Section 1: the part of the record that has the numbers of values.
+fn read_counts(bytes: &[u8]) -> Result<&[u8], Fault>
+    ensures fits { IfOk result (λ ns. (length ns.now ≤ 8) × (length ns.now + 1 ≤ length bytes.now)) }
     ensures is { declared result ≡ variables bytes.now }
 {
-    let [variables, ..] = bytes else {
+    let [variables, rest @ ..] = bytes else {
         return Err(Fault::Ended(Section::Variables, 0));
     };
-    let variables = *variables;
-    if variables > MOST_VARIABLES {
+    if *variables > MOST_VARIABLES {
         return Err(Fault::TooManyVariables);
     }
-    let mut counts = [0u8; 8];
+    let wanted = *variables as usize;
+    let listed = &rest[..rest.len().min(wanted)];
     let mut product: u16 = 1;
-    let mut rest = &bytes[1..];
-    'variables: for i in 0..variables {
-        let [values, ..] = rest else {
-            return Err(Fault::Ended(Section::Variables, bytes.len()));
-        };
-        product = product_with(product, *values, bytes.len() - rest.len())?;
-        counts[i as usize] = *values;
-        rest = &rest[1..];
+    'variables: for (i, values) in listed.iter().enumerate() {
+        product = product_with(product, *values, i + 1)?;
     }
-    Ok(Counts { counts, variables })
+    if listed.len() < wanted {
+        return Err(Fault::Ended(Section::Variables, bytes.len()));
+    }
+    Ok(listed)
 }
 
 // The number of clocks, at the front of what is left of a record of `end` bytes.
@@ -89,13 +80,13 @@ pub fn read_sizes(bytes: &[u8]) -> Result<Sizes, Fault>
     ensures fits { IfOk result (λ z. z.variables + 2 ≤ length bytes.now) }
     ensures is { Measures bytes.now (measures result) }
 {
-    let declared = read_counts(bytes)?;
-    let counts = declared.counts;
-    let variables = declared.variables;
-    let clocks = read_clock_count(&bytes[variables as usize + 1..], bytes.len())?;
+    let listed = read_counts(bytes)?;
+    let clocks = read_clock_count(&bytes[listed.len() + 1..], bytes.len())?;
+    let mut counts = [0u8; 8];
+    counts[..listed.len()].copy_from_slice(listed);
     Ok(Sizes {
         counts,
-        variables,
+        variables: listed.len() as u8,
         clocks,
     })
 }

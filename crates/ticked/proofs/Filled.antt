@@ -1,5 +1,5 @@
 -- The delays of ticked time, filled in.
-use Rattle.std.proofs.Common.{◌≡◌, ℕ, zero, suc, ◌<◌, ◌≤◌, List, [], ◌∷◌, ◌++◌, map, reverse, length, get_or, sym, refl, ap, ◌∙◌, arith}
+use Rattle.std.proofs.Common.{◌≡◌, ℕ, ◌≤◌, List, [], ◌∷◌, ◌++◌, map, reverse, length, sym, refl, ap, ◌∙◌, arith}
 use Rattle.std.proofs.lemmas.List.{map-append, reverse-append, reverse-reverse}
 use Rattle.kinds.specs.declared.steps.Step.{Step}
 use Rattle.kinds.specs.Steps.{delay_of, redelayed, trials_of, Delayed}
@@ -12,12 +12,6 @@ map-rev f (x ∷ xs) =
     ap (map f) (reverse-append (x ∷ []) xs) ∙ map-append f (reverse xs) (x ∷ []) ∙ ap (λ l. l ++ (f x ∷ [])) (map-rev f xs)
     ∙ sym (reverse-append (f x ∷ []) (map f xs))
 
--- an element that there is does not depend on the default
-pub any-default : (ps : List Step) (i : ℕ) (d e : Step) → i < length ps → get_or ps i d ≡ get_or ps i e
-any-default [] i d e h = absurd (omega arith)
-any-default (p ∷ ps) zero d e h = refl
-any-default (p ∷ ps) (suc i) d e h = any-default ps i d e (omega arith)
-
 by-records : (ps : List Step) → redelayed ps (map units_of (map delay_of ps)) ≡ map in_units ps
 unfolding redelayed
 by-records [] = refl
@@ -29,6 +23,3 @@ turned ps = ap reverse (map-rev units_of (map delay_of ps)) ∙ reverse-reverse 
 pub delayed : (K : Setting) (i : ℕ) (ps qs : List Step) → length ps ≤ 65534 → qs ≡ map in_units ps → Delayed (ticked K) i ps qs 1
 delayed K i ps qs l e =
     record { parts = λ _. refl; filled = λ _. e ∙ sym (ap (redelayed ps) (turned ps) ∙ by-records ps); long = λ h. absurd (omega arith) }
-
-pub too_many : (K : Setting) (i : ℕ) (ps : List Step) → 65534 < length ps → Delayed (ticked K) i ps ps 0
-too_many K i ps h = record { parts = λ l. absurd (omega arith); filled = λ l. absurd (omega arith); long = λ _. (refl, refl) }

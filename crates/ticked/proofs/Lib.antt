@@ -1,4 +1,5 @@
 pub mod Sameness
-pub mod Laws
+pub mod Occurring
 pub mod Moving
 pub mod Filled
+pub mod Mixing

@@ -4,11 +4,13 @@ ghost use Rattle.ticked.specs.declared.places.Ticks.TheVariants.{Over, At};
 ghost use Rattle.ticked.specs.Ticks.{at, four_of, begun, cleared, hit, later, limit};
 
 use super::places::Ticks;
+use std::array;
 
-fn begin(clock: u8, clocks: u8) -> Ticks
+// A declared clock begins at 0.
+fn begin(clock: usize, clocks: u8) -> Ticks
     ensures { result ≡ begun clocks clock }
 {
-    if clock < clocks {
+    if clock < clocks as usize {
         Ticks::At(0)
     } else {
         Ticks::Over
@@ -19,26 +21,25 @@ fn begin(clock: u8, clocks: u8) -> Ticks
 pub(super) fn zeros(clocks: u8) -> [Ticks; 4]
     ensures { result ≡ four_of (begun clocks) }
 {
-    [
-        begin(0, clocks),
-        begin(1, clocks),
-        begin(2, clocks),
-        begin(3, clocks),
-    ]
+    array::from_fn(|c| begin(c, clocks))
 }
 
-fn grown(clock: Ticks, ceiling: u16) -> Ticks
-    ensures { result ≡ later ceiling clock }
-{
-    match clock {
-        Ticks::Over => Ticks::Over,
-        Ticks::At(whole) => {
-            if whole < ceiling {
-                Ticks::At(whole + 1)
-            } else {
-                Ticks::Over
-            }
+impl Ticks {
+    // One unit later.
+    fn grown(self, ceiling: u16) -> Ticks
+        ensures { result ≡ later ceiling self }
+    {
+        match self {
+            Ticks::At(whole) if whole < ceiling => Ticks::At(whole + 1),
+            _ => Ticks::Over,
         }
+    }
+
+    // Set to 0, if a reset hits it.
+    fn restart(self, hit: bool) -> Ticks
+        ensures { result ≡ cleared hit self }
+    {
+        if hit { Ticks::At(0) } else { self }
     }
 }
 
@@ -46,22 +47,12 @@ fn grown(clock: Ticks, ceiling: u16) -> Ticks
 pub(super) fn elapse(clocks: [Ticks; 4], ceilings: [u16; 4]) -> [Ticks; 4]
     ensures { result ≡ four_of (λ c. later (limit ceilings c) (at clocks c)) }
 {
-    let [a, b, c, d] = clocks;
-    let [i, j, k, l] = ceilings;
-    [grown(a, i), grown(b, j), grown(c, k), grown(d, l)]
-}
-
-fn restart(clock: Ticks, hit: bool) -> Ticks
-    ensures { result ≡ cleared hit clock }
-{
-    if hit { Ticks::At(0) } else { clock }
+    array::from_fn(|c| clocks[c].grown(ceilings[c]))
 }
 
 // The clocks that are reset are 0.
 pub(super) fn reset(clocks: [Ticks; 4], resets: [bool; 4]) -> [Ticks; 4]
     ensures { result ≡ four_of (λ c. cleared (hit resets c) (at clocks c)) }
 {
-    let [a, b, c, d] = clocks;
-    let [i, j, k, l] = resets;
-    [restart(a, i), restart(b, j), restart(c, k), restart(d, l)]
+    array::from_fn(|c| clocks[c].restart(resets[c]))
 }

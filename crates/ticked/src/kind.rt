@@ -1,85 +1,59 @@
 // Ticked time as a kind of time.
 ghost use Rattle.std.specs.Prelude.{◌≡◌};
-ghost use Rattle.tables.specs.Settings.{setting_in};
 ghost use Rattle.ceilings.specs.Ceilings.{Ceilings};
 ghost use Rattle.model.specs.Reading.{layout};
+ghost use Rattle.tables.specs.Made.{made};
 ghost use Rattle.ticked.specs.Trials.{ticked, Ticking};
 
 use super::places::{Place, same_places, slot_of};
-use super::trials::{begins, enters, passes};
+use super::trials::{moves, starts};
 use super::units::fill_units;
-use ceilings::ceilings;
-use kinds::{Step, Time};
-use model::Model;
-use valuations::{valuations, values, values as next_values};
-
-// The most steps of a chain.
-const MOST_STEPS: usize = 65534;
+use kinds::{MOST_STEPS, Step, Time};
+use model::Pack;
+use tables::Setting;
 
 #[derive(Clone, Copy)]
 pub struct Ticked<'a> {
-    bytes: &'a [u8],
-    model: &'a Model,
-    ceilings: [u16; 4],
+    setting: Setting<'a>,
 }
 
 impl<'a> Ticked<'a> {
-    // Ticked time over the model that was read from these bytes.
-    pub fn of(bytes: &'a [u8], model: &'a Model) -> Ticked<'a>
-        ensures bytes { result.bytes.now ≡ bytes.now }
-        ensures model { result.model.now ≡ model.now }
-        ensures ceilings { Ceilings bytes.now (layout model.now) result.ceilings }
-        ensures ticking { Ticking (setting_in bytes.now model.now result.ceilings) }
+    // Ticked time over a model and the bytes it was read from.
+    pub fn of(pack: &Pack<'a>) -> Ticked<'a>
+        ensures bytes { result.setting.pack.bytes.now ≡ pack.now.bytes.now }
+        ensures model { result.setting.pack.model.now ≡ pack.now.model.now }
+        ensures ceilings { Ceilings pack.now.bytes.now (layout pack.now.model.now) result.setting.ceilings }
+        ensures ticking { Ticking (made result.setting) }
     {
-        let ceilings = ceilings(bytes, model);
         Ticked {
-            bytes,
-            model,
-            ceilings,
+            setting: Setting::of(pack),
         }
     }
 }
 
 impl<'a> Time for Ticked<'a> {
+    ghost use Rattle.ticked.specs.Laws.{lawful_in};
+
     type Place = Place;
 
-    ghost meaning = { λ k. ticked (setting_in k.bytes.now k.model.now k.ceilings) };
+    ghost meaning = { λ k. ticked (made k.setting) };
+
+    ghost lawful = { λ k. lawful_in k.setting.pack.bytes.now k.setting.pack.model.now k.setting.ceilings };
 
     fn start_trials(&self) -> u16 {
-        valuations(&self.model.sizes)
+        self.setting.valuations()
     }
 
     fn step_trials(&self) -> u16 {
-        valuations(&self.model.sizes) + 1
+        self.setting.valuations() + 1
     }
 
     fn start(&self, trial: u16) -> Option<Place> {
-        if trial >= valuations(&self.model.sizes) {
-            return None;
-        }
-        let values = values(&self.model.sizes, trial);
-        begins(self.bytes, self.model, self.ceilings, &values, trial)
+        starts(&self.setting, trial)
     }
 
     fn step(&self, place: Place, trial: u16) -> Option<Place> {
-        let values = values(&self.model.sizes, place.valuation);
-        if trial == 0 {
-            return passes(self.bytes, self.model, self.ceilings, &values, place);
-        }
-        let valuation = trial - 1;
-        if valuation >= valuations(&self.model.sizes) {
-            return None;
-        }
-        let next = next_values(&self.model.sizes, valuation);
-        enters(
-            self.bytes,
-            self.model,
-            self.ceilings,
-            &values,
-            &next,
-            place,
-            valuation,
-        )
+        moves(&self.setting, place, trial)
     }
 
     fn elapses(&self, trial: u16) -> bool {
@@ -105,6 +79,4 @@ impl<'a> Time for Ticked<'a> {
         fill_units(steps);
         1
     }
-
-    fn keeps(&self) {}
 }

@@ -4,46 +4,48 @@ ghost use Rattle.ticked.specs.Ticks.{at, side_of};
 
 use super::places::Ticks;
 use judging::{Reading, Side};
+use std::cmp::Ordering;
 
-#[derive(Clone, Copy)]
+// The clocks of a place, and whether half a unit has passed since.
+#[derive(Clone, Copy, Debug, PartialEq, Eq)]
 pub struct Moment {
     pub clocks: [Ticks; 4],
     pub half: bool,
 }
 
+// A clock that the place has not counts as over.
 fn clock_of(clocks: [Ticks; 4], clock: u8) -> Ticks
     ensures { result ≡ at clocks clock }
 {
-    if clock < 4 {
-        clocks[clock as usize]
-    } else {
-        Ticks::Over
-    }
+    clocks.get(clock as usize).copied().unwrap_or(Ticks::Over)
 }
 
-fn side_from(clock: Ticks, half: bool, constant: u16) -> Side
-    ensures { result ≡ side_of half clock constant }
-{
-    match clock {
-        Ticks::Over => Side::Above,
-        Ticks::At(whole) => {
-            if whole < constant {
-                Side::Below
-            } else if whole == constant && !half {
-                Side::At
-            } else {
-                Side::Above
+impl Ticks {
+    // Where it stands to a constant, or its number and a half.
+    fn side(self, half: bool, constant: u16) -> Side
+        ensures { result ≡ side_of half self constant }
+    {
+        match self {
+            Ticks::Over => Side::Above,
+            Ticks::At(whole) => {
+                match whole.cmp(&constant) {
+                    Ordering::Less => Side::Below,
+                    Ordering::Equal if !half => Side::At,
+                    _ => Side::Above,
+                }
             }
         }
     }
 }
 
 impl Reading for Moment {
+    ghost use Rattle.ticked.specs.Laws.{moment_ordered};
+
     ghost side = { λ s c j. side_of s.half (at s.clocks c) j };
 
     fn side_of(&self, clock: u8, constant: u16) -> Side {
-        side_from(clock_of(self.clocks, clock), self.half, constant)
+        clock_of(self.clocks, clock).side(self.half, constant)
     }
 
-    fn ordered(&self) {}
+    ghost ordered = { moment_ordered };
 }

@@ -9,16 +9,16 @@ fn unit(step: Step) -> Step
     ensures { result ≡ in_units step }
 {
     Step {
-        kind: step.kind,
-        valuation: step.valuation,
         delay: if step.delay == 0 { 1 } else { 0 },
+        ..step
     }
 }
 
+// Gives each record the delay of its trial.
 pub(super) fn fill_units(steps: &mut [Step])
     ensures { steps.new ≡ map in_units steps.old }
 {
-    'steps: for i in 0..steps.len() {
-        steps[i] = unit(steps[i]);
+    'steps: for step in steps.iter_mut() {
+        *step = unit(*step);
     }
 }

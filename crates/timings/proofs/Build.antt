@@ -16,7 +16,7 @@ use Rattle.regions.specs.Regions.{any_sharp, rank_of}
 use Rattle.regions.proofs.Fours.{below-four}
 use Rattle.dense.specs.Delays.{Timing, arriving, trying, advanced, timing}
 use Rattle.dense.specs.Trials.{Occurs, origin, starting, stepping, dense}
-use Rattle.dense.proofs.Timed.{timing-first, timing-next}
+use Rattle.dense.specs.Timed.{timing-first, timing-next}
 use Rattle.timings.specs.Agreement.{ceiling_of}
 use Rattle.timings.specs.Standing.{One, Stands}
 use Rattle.timings.proofs.Fewer.{sharp-fewer}

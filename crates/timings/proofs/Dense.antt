@@ -5,7 +5,7 @@ use Rattle.kinds.specs.Time.{Reaches as Chained}
 use Rattle.tables.specs.Settings.{Setting}
 use Rattle.runs.specs.Runs.{now}
 use Rattle.dense.specs.Trials.{starting, stepping, dense}
-use Rattle.dense.proofs.Timed.{parts-some}
+use Rattle.dense.specs.Timed.{parts-some}
 use Rattle.timings.specs.Agreement.{Shows}
 use Rattle.timings.specs.Theorems.{answers_in, SomeRun, Exact}
 use Rattle.timings.proofs.Follows.{to-chain}

@@ -12,7 +12,7 @@ use Rattle.regions.specs.Clocks.{at, Padded}
 use Rattle.regions.specs.Regions.{after, tidy}
 use Rattle.regions.proofs.Padding.{fewer-at}
 use Rattle.dense.specs.Trials.{only, shown, values, origin, elapsed, moved, starting, stepping, dense, Occurs}
-use Rattle.dense.proofs.Laws.{regional}
+use Rattle.dense.proofs.Occurring.{regional}
 use Rattle.timings.specs.Agreement.{ceiling_of}
 use Rattle.timings.proofs.Fewer.{tidy-at}
 

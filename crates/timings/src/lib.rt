@@ -13,27 +13,27 @@ ghost use Rattle.model.specs.Reading.{layout};
 ghost use Rattle.timings.specs.Theorems.{DenseIsExact, DenseRuns, TickedIsExact, TickedRuns'};
 
 use dense::Dense;
-use model::Model;
+use model::Pack;
 use ticked::Ticked;
 
-// Dense time over the model that was read from these bytes.
-pub fn dense_time<'a>(bytes: &'a [u8], model: &'a Model) -> Dense<'a>
-    ensures bytes { result.bytes.now ≡ bytes.now }
-    ensures model { result.model.now ≡ model.now }
-    ensures ceilings { Ceilings bytes.now (layout model.now) result.ceilings }
-    ensures exact { DenseIsExact bytes.now model.now result.ceilings }
-    ensures runs { DenseRuns bytes.now model.now result.ceilings }
+// Dense time over a model and the bytes it was read from.
+pub fn dense_time<'a>(pack: &Pack<'a>) -> Dense<'a>
+    ensures bytes { result.setting.pack.bytes.now ≡ pack.now.bytes.now }
+    ensures model { result.setting.pack.model.now ≡ pack.now.model.now }
+    ensures ceilings { Ceilings pack.now.bytes.now (layout pack.now.model.now) result.setting.ceilings }
+    ensures exact { DenseIsExact pack.now.bytes.now pack.now.model.now result.setting.ceilings }
+    ensures runs { DenseRuns pack.now.bytes.now pack.now.model.now result.setting.ceilings }
 {
-    Dense::of(bytes, model)
+    Dense::of(pack)
 }
 
-// Ticked time over the model that was read from these bytes.
-pub fn ticked_time<'a>(bytes: &'a [u8], model: &'a Model) -> Ticked<'a>
-    ensures bytes { result.bytes.now ≡ bytes.now }
-    ensures model { result.model.now ≡ model.now }
-    ensures ceilings { Ceilings bytes.now (layout model.now) result.ceilings }
-    ensures exact { TickedIsExact bytes.now model.now result.ceilings }
-    ensures runs { TickedRuns' bytes.now model.now result.ceilings }
+// Ticked time over a model and the bytes it was read from.
+pub fn ticked_time<'a>(pack: &Pack<'a>) -> Ticked<'a>
+    ensures bytes { result.setting.pack.bytes.now ≡ pack.now.bytes.now }
+    ensures model { result.setting.pack.model.now ≡ pack.now.model.now }
+    ensures ceilings { Ceilings pack.now.bytes.now (layout pack.now.model.now) result.setting.ceilings }
+    ensures exact { TickedIsExact pack.now.bytes.now pack.now.model.now result.setting.ceilings }
+    ensures runs { TickedRuns' pack.now.bytes.now pack.now.model.now result.setting.ceilings }
 {
-    Ticked::of(bytes, model)
+    Ticked::of(pack)
 }

@@ -1,3 +1,4 @@
 pub mod Radix
 pub mod Told
+pub mod Products
 pub mod Turns

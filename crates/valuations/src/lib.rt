@@ -16,12 +16,7 @@ use instruction::Sizes;
 pub fn valuations(sizes: &Sizes) -> u16
     ensures { result ≡ product (value_counts sizes.now) }
 {
-    let mut product: u16 = 1;
-    let counts = sizes.counts;
-    'variables: for i in 0..sizes.variables {
-        product *= counts[i as usize] as u16;
-    }
-    product
+    sizes.counts().iter().map(|n| u16::from(*n)).product()
 }
 
 // The value of each variable in a valuation, by the variable's index; 0 where there is none.
@@ -30,13 +25,10 @@ pub fn values(sizes: &Sizes, valuation: u16) -> [u8; 8]
     ensures { Values (value_counts sizes.now) valuation result }
 {
     let mut values = [0u8; 8];
-    let counts = sizes.counts;
     let mut left = valuation;
-    let mut i = sizes.variables;
-    'variables: while i > 0 {
-        i -= 1;
-        let n = counts[i as usize] as u16;
-        values[i as usize] = (left % n) as u8;
+    'variables: for (i, n) in sizes.counts().iter().enumerate().rev() {
+        let n = u16::from(*n);
+        values[i] = (left % n) as u8;
         left /= n;
     }
     values
@@ -46,15 +38,12 @@ pub fn values(sizes: &Sizes, valuation: u16) -> [u8; 8]
 pub fn number(sizes: &Sizes, values: [u8; 8]) -> Option<u16>
     ensures { Numbers (value_counts sizes.now) values result }
 {
-    let counts = sizes.counts;
     let mut number: u16 = 0;
-    'variables: for i in 0..sizes.variables {
-        let n = counts[i as usize];
-        let x = values[i as usize];
+    'variables: for (n, x) in sizes.counts().iter().zip(&values) {
         if x >= n {
             return None;
         }
-        number = number * n as u16 + x as u16;
+        number = number * u16::from(*n) + u16::from(*x);
     }
     Some(number)
 }

@@ -3,4 +3,4 @@ use Rattle.timings.proofs.ticked_time.Goals as goal
 
 pub returns : goal.returns
 returns c =
-    record { bytes = c.of.ensures.bytes; model = c.of.ensures.model; ceilings = c.of.ensures.ceilings; exact = ticked-is-exact c.args.bytes.now c.args.model.now c.of.result.ceilings c.of.ensures.ceilings; runs = ticked-runs-so c.args.bytes.now c.args.model.now c.of.result.ceilings c.of.ensures.ceilings }
+    record { bytes = c.of.ensures.bytes; model = c.of.ensures.model; ceilings = c.of.ensures.ceilings; exact = ticked-is-exact c.args.pack.now.bytes.now c.args.pack.now.model.now c.of.result.setting.ceilings c.of.ensures.ceilings; runs = ticked-runs-so c.args.pack.now.bytes.now c.args.pack.now.model.now c.of.result.setting.ceilings c.of.ensures.ceilings }

@@ -1,16 +1,21 @@
--- The product so far times the product of the numbers left is the product of all.
-use Rattle.std.proofs.Common.{sym, ◌∙◌, arith}
-use mir.Facts.{Fits-below}
-use Rattle.valuations.proofs.Turns.{product-turn, product-fits, product-end}
+-- The chain gives the numbers of values, so its product is theirs.
+use Rattle.std.proofs.Common.{ap, ◌∙◌, arith, rules}
+use Rattle.std.proofs.lemmas.Iterator.{YieldsList-from_slice, YieldsList-from_map}
+use Rattle.instruction.specs.Sizes.{product, ranged}
+use Rattle.valuations.proofs.Products.{product-is, product-fits}
 use Rattle.valuations.proofs.valuations.Goals as goal
 
-pub overflow_mul-product : goal.overflow_mul-product
-overflow_mul-product c =
-    let h = product-fits _ _ _ (omega arith) c.variables-test.true c.args.sizes.now.in_range c.variables.product _ c.variables.invariant in
-    Fits-below {n = 1024} tt (omega (arith, h))
-
-pub variables-preserved : goal.variables-preserved
-variables-preserved c = product-turn _ _ _ (omega arith) c.variables-test.true c.variables.product _ c.variables.invariant
+pub product-requires-clause-fits : goal.product-requires-clause-fits
+product-requires-clause-fits c =
+    product-fits c.counts.result.now
+    (YieldsList-from_map _ (λ n. n) (YieldsList-from_slice c.counts.result.now cc) c.map.ensures.closure (λ x r q k. search rules))
+    _
+    (ap ranged c.counts.ensures ∙ c.args.sizes.now.in_range)
+    (omega (arith, ap product c.counts.ensures, c.args.sizes.now.few_valuations))
 
 pub returns : goal.returns
-returns c = sym (product-end _ _ _ c.variables-test.false c.variables.product) ∙ c.variables.invariant
+returns c =
+    product-is c.counts.result.now
+    (YieldsList-from_map _ (λ n. n) (YieldsList-from_slice c.counts.result.now cc) c.map.ensures.closure (λ x r q k. search rules))
+    _ c.product.ensures.ran
+    ∙ ap product c.counts.ensures

@@ -1,5 +1,5 @@
--- The values behind the variable at hand are set, and what is left has those of the others.
-use Rattle.std.proofs.Common.{◌≡◌, ◌-◌, ◌/◌, ◌≤◌, ◌++◌, length, drop, replicate}
+-- The values behind the numbers that are left are set, and what is left of the number has the other values.
+use Rattle.std.proofs.Common.{◌≡◌, ◌-◌, ◌/◌, ◌++◌, length, drop, replicate}
 use Rattle.instruction.specs.Counts.{value_counts}
 use Rattle.instruction.specs.Sizes.{product}
 use Rattle.valuations.specs.Radix.{digits}
@@ -7,10 +7,8 @@ use Rattle.valuations.proofs.values.Given as goal
 
 abbrev pub invariant-variables : goal.invariant-variables
 invariant-variables l =
-    (l.i ≤ l.sizes.variables)
+    (l.i-iterator.iter.count ≡ 0)
+    × (l.i-iterator.iter.iter.rest.now ++ drop (length l.i-iterator.iter.iter.rest.now) (value_counts l.sizes) ≡ value_counts l.sizes)
     × (length l.values ≡ 8)
-    × (l.left ≡ l.valuation / product (drop l.i (value_counts l.sizes)))
-    × (drop l.i l.values ≡ digits (drop l.i (value_counts l.sizes)) l.valuation ++ replicate (8 - l.sizes.variables) 0)
-
-abbrev pub decreases-variables : goal.decreases-variables
-decreases-variables l = l.i
+    × (l.left ≡ l.valuation / product (drop (length l.i-iterator.iter.iter.rest.now) (value_counts l.sizes)))
+    × (drop (length l.i-iterator.iter.iter.rest.now) l.values ≡ digits (drop (length l.i-iterator.iter.iter.rest.now) (value_counts l.sizes)) l.valuation ++ replicate (8 - length (value_counts l.sizes)) 0)

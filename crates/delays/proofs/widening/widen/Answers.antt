@@ -11,19 +11,18 @@ none = record { kind = 0; valuation = 0; delay = 0 }
 pub steps-init : goal.steps-init
 steps-init c =
     let all : length c.args.steps.now ≤ length c.args.steps.now = omega arith in
-    (omega arith, total-end _ _ all, omega arith, refl, wide-end _ _ _ all)
+    (total-end _ _ all, omega arith, refl, wide-end _ _ _ all)
 
 pub steps-preserved : goal.steps-preserved
 steps-preserved c =
-    let next : c.steps.i - 1 + 1 ≡ c.steps.i = omega arith in
-    let less : c.steps.i - 1 < length c.args.steps.now = omega arith in
-    let here : c.steps.i - 1 < length c.steps.steps = omega arith in (
+    let next : c.steps.i - 1 + 1 ≡ c.steps.i = omega (arith, c.steps-test.true) in
+    let less : c.steps.i - 1 < length c.args.steps.now = omega (arith, c.steps-test.true) in
+    let here : c.steps.i - 1 < length c.steps.steps = omega (arith, c.steps-test.true) in (
+      total-turn _ _ c.steps.steps _ none next less c.steps.invariant.2 _ c.steps.invariant.0,
       omega arith,
-      total-turn _ _ c.steps.steps _ none next less c.steps.invariant.3 _ c.steps.invariant.1,
-      omega arith,
-      front-turn _ _ c.steps.steps _ none next less c.steps.invariant.3 _,
-      wide-turn _ _ c.steps.steps _ none next less c.steps.invariant.3 _ _ _ here c.steps.invariant.1 c.widened_delay.ensures.is c.steps.invariant.4,
+      front-turn _ _ c.steps.steps _ none next less c.steps.invariant.2 _,
+      wide-turn _ _ c.steps.steps _ none next less c.steps.invariant.2 _ _ _ here c.steps.invariant.0 c.widened_delay.ensures.is c.steps.invariant.3,
     )
 
 pub returns : goal.returns
-returns c = widens c.args.parts c.steps.i c.steps.steps _ (omega arith) c.steps-test.false c.steps.invariant.4
+returns c = widens c.args.parts c.steps.i c.steps.steps _ (omega arith) c.steps-test.false c.steps.invariant.3

@@ -5,11 +5,7 @@ use Rattle.delays.proofs.widening.widen.Given as goal
 
 abbrev pub invariant-steps : goal.invariant-steps
 invariant-steps l =
-    (l.i ≤ length l.initial.steps)
-    × (l.before ≡ total (drop l.i l.initial.steps))
+    (l.before ≡ total (drop l.i l.initial.steps))
     × (l.before + l.i * 4294967296 ≤ length l.initial.steps * 4294967296)
     × (take l.i l.steps ≡ take l.i l.initial.steps)
     × (drop l.i l.steps ≡ wide l.parts (drop l.i l.initial.steps))
-
-abbrev pub decreases-steps : goal.decreases-steps
-decreases-steps l = l.i

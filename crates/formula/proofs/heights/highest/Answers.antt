@@ -1,20 +1,19 @@
-use Rattle.std.proofs.Common.{◌<◌, ◌≤◌, length, sym, refl, ◌∙◌, arith, length-drop, true-eqb, false-eqb}
-use Rattle.std.proofs.lemmas.List.{take_rest}
-use Rattle.instruction.specs.Reader.{width}
-use Rattle.formula.proofs.Scanned.{turn, no-op, ended, measured}
+use Rattle.std.proofs.Common.{sym, ◌∙◌}
+use Rattle.formula.proofs.Onward.{onward, faulty, scan-on, scan-faulty}
+use Rattle.formula.proofs.Scanned.{ended, measured}
 use Rattle.formula.proofs.heights.highest.Goals as goal
 
 pub returns-in_default : goal.returns-in_default
 returns-in_default c =
-    let some : 0 < length c.instructions.rest.now = omega (arith, false-eqb _ 0 c.instructions-test.ensures) in
-    measured _ _ _ _ _ (sym (no-op _ _ _ c.instructions.height _ _ c.instructions.rest.now (omega arith) some (sym c.in_default.ensures.answer)) ∙ c.instructions.invariant.1)
+    let i = c.instructions.invariant in
+    measured _ _ _ _ _ (sym (scan-faulty _ _ _ i.2 i.3 i.4 c.instructions.height _ (faulty _ _ _ _ c.in_default.is c.in-Some.ensures.steps)) ∙ i.5)
 
 pub instructions-preserved : goal.instructions-preserved
 instructions-preserved c =
-    let wide : (1 ≤ width c.in-Ok.instruction) × (width c.in-Ok.instruction ≤ length c.instructions.rest.now) = c.in-Ok.ensures.some _ refl in
-    let e = turn _ _ _ c.instructions.height _ _ c.instructions.rest.now (omega arith) (omega arith) wide.0 (sym c.in-Ok.ensures.answer) in
-    rw take_rest (simp length-drop (omega arith), simp (c.width_of.ensures, c.max-height.ensures, c.constant_of.ensures) (sym e ∙ c.instructions.invariant.1))
+    let i = c.instructions.invariant in
+    let h = onward _ _ _ _ c.in-Ok.is c.in-Some.ensures.steps in
+    (tt, tt, h.same.end ∙ i.2, h.same.sizes ∙ i.3, h.same.section ∙ i.4, simp (c.max-height.ensures, c.constant_of.ensures) (sym (scan-on _ _ _ i.2 i.3 i.4 c.instructions.height _ _ _ h) ∙ i.5))
 
 pub returns : goal.returns
 returns c =
-    measured _ _ _ _ _ (sym (ended _ _ _ c.instructions.height c.instructions.rest.now (true-eqb _ 0 c.instructions-test.ensures)) ∙ c.instructions.invariant.1)
+    measured _ _ _ _ _ (sym (ended _ _ _ c.instructions.height c.instructions.found-iterator.rest.now c.in-None.ensures.steps) ∙ c.instructions.invariant.5)

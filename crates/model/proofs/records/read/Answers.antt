@@ -1,6 +1,7 @@
-use Rattle.std.proofs.Common.{◌≡◌, ℕ, ◌+◌, length, take, rules}
+use Rattle.std.proofs.Common.{◌+◌, length, drop, ap, ◌∙◌}
 use Rattle.std.proofs.lemmas.Result.{err_from_is_err_and}
-use Rattle.std.proofs.lemmas.List.{take_rest, length-take-le}
+use Rattle.std.proofs.lemmas.List.{take_rest}
+use Rattle.instruction.specs.Counts.{value_counts}
 use Rattle.model.proofs.Laws.{promised, read_by, refused-by}
 use Rattle.model.proofs.records.read.Goals as goal
 
@@ -11,6 +12,4 @@ returns-in_err-sizes c =
 
 pub returns : goal.returns
 returns c =
-    let v : ℕ = c.in_ok-sizes.sizes.variables in
-    let size : length (take v c.in_ok-sizes.sizes.counts) ≡ v = length-take-le v c.in_ok-sizes.sizes.counts (search rules) in
-    promised c.args.bytes.now _ (read_by c.args.bytes.now (take v c.in_ok-sizes.sizes.counts) _ v _ _ c.in_ok-sizes.ensures.is.answer size (take_rest c.args.bytes.now (v + 2)) c.read_sections.ensures)
+    promised c.args.bytes.now _ (read_by c.args.bytes.now (value_counts c.in_ok-sizes.sizes) _ _ _ c.in_ok-sizes.ensures.is.answer (take_rest c.args.bytes.now _ ∙ ap (λ ns. drop (length ns + 2) c.args.bytes.now) c.counts.ensures) c.read_sections.ensures)

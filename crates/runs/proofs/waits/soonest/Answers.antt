@@ -4,12 +4,9 @@ use Rattle.runs.proofs.waits.soonest.Goals as goal
 
 pub returns : goal.returns
 returns c =
+    let s = c.next_wholes.ensures.soon in
+    let h = c.next_wholes.ensures.some in
     record {
-      some = omega arith;
-      each = (
-        sooner _ _ _ c.next_whole.result c.min-2.result (omega arith) c.next_whole.ensures.soon,
-        sooner _ _ _ c.next_whole-2.result c.min-2.result (omega arith) c.next_whole-2.ensures.soon,
-        sooner _ _ _ c.next_whole-3.result c.min-2.result (omega arith) c.next_whole-3.ensures.soon,
-        sooner _ _ _ c.next_whole-4.result c.min-2.result (omega arith) c.next_whole-4.ensures.soon,
-      );
+      some = omega (arith, h.0, h.1, h.2, h.3);
+      each = (sooner _ _ _ _ _ (omega arith) s.0, sooner _ _ _ _ _ (omega arith) s.1, sooner _ _ _ _ _ (omega arith) s.2, sooner _ _ _ _ _ (omega arith) s.3);
     }

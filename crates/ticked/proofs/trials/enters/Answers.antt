@@ -1,14 +1,11 @@
-use Rattle.std.proofs.Common.{sym, ◌∙◌}
-use Rattle.tables.specs.Settings.{setting_in}
-use Rattle.ticked.proofs.Moving.{not_valid, entered}
+use Rattle.std.proofs.Common.{sym, ◌∙◌, rules}
+use Rattle.tables.specs.Made.{made}
+use Rattle.ticked.proofs.Moving.{entered}
 use Rattle.ticked.proofs.trials.enters.Goals as goal
-
-pub returns-then-not-says-2 : goal.returns-then-not-says-2
-returns-then-not-says-2 c =
-    not_valid (setting_in c.args.bytes.now c.args.model.now c.args.ceilings) c.args.values.now c.args.next.now c.args.place c.args.valuation c.resets.result c.reset-clocks.result
-    c.resets.ensures c.reset-clocks.ensures (sym (sym c.if-not-says-2.true ∙ c.says-2.ensures.answer))
 
 pub returns : goal.returns
 returns c =
-    entered (setting_in c.args.bytes.now c.args.model.now c.args.ceilings) c.args.values.now c.args.next.now c.args.place c.args.valuation c.resets.result c.reset-clocks.result
-    c.resets.ensures c.reset-clocks.ensures (sym (sym c.if-not-says.false ∙ c.says.ensures.answer)) (sym (sym c.if-not-says-2.false ∙ c.says-2.ensures.answer))
+    let e =
+    entered (made c.args.setting.now) c.args.values.now c.args.next.now c.args.place c.args.valuation c.resets.result c.reset-clocks.result
+    c.resets.ensures c.reset-clocks.ensures c.valid.result (sym (sym c.if-not-says.false ∙ c.says.ensures.answer)) c.valid.ensures in
+    search (rules, e)

@@ -1,0 +1,127 @@
+// Trials in a kind of time: the places that they give, and the delays of the chains that they make.
+use super::answers::{Answer, said, yes_or_no};
+use super::cases::Tale;
+use super::failures::Failure;
+use super::places::{Shown, Told};
+use super::steps::Run;
+use kinds::{Step, StepKind, Time};
+use model::Pack;
+use std::alloc::{AllocError, Global};
+
+// A question that holds everywhere.
+const TRUE: &[u8] = b"t";
+
+// A kind of time over a record.
+#[derive(Clone, Copy)]
+pub(super) struct Timed<'a, K> {
+    pub heap: Global,
+    pub pack: &'a Pack<'a>,
+    pub kind: &'a K,
+}
+
+// The numbers of trials, with single blanks between them.
+fn trials_of(heap: Global, text: &str) -> Result<Vec<u16>, Failure> {
+    let mut trials = Vec::new(heap);
+    for word in text.split(' ') {
+        trials.push(word.parse::<u16>()?)?;
+    }
+    Ok(trials)
+}
+
+impl<'a, K: Time> Timed<'a, K>
+where
+    K::Place: Shown,
+{
+    fn say_given(&self, answer: &mut Answer, given: Option<K::Place>) -> Result<(), AllocError> {
+        let Some(place) = given else {
+            return answer.say("nothing");
+        };
+        let clocks = place.clocks();
+        let declared = clocks.len().min(self.pack.model.sizes.clocks as usize);
+        answer.say(Told {
+            valuation: self.kind.valuation(place),
+            clocks: &clocks[..declared],
+        })
+    }
+
+    // What each trial gives, from the place that was reached last; a start trial as long as there is
+    // none.
+    fn places(&self, trials: &[u16]) -> Result<Answer, Failure> {
+        let mut answer = Answer::new(self.heap);
+        let mut at = None;
+        for trial in trials {
+            let given = match &at {
+                Some(place) => self.kind.step(*place, *trial),
+                None => self.kind.start(*trial),
+            };
+            self.say_given(&mut answer, given)?;
+            at = given.or(at);
+        }
+        Ok(answer)
+    }
+
+    // A step of a chain, with the number of its trial for a delay.
+    fn step_into(&self, place: K::Place, trial: u16) -> Step {
+        let step = if self.kind.elapses(trial) {
+            StepKind::Elapse
+        } else {
+            StepKind::Discrete
+        };
+        Step {
+            kind: step.into(),
+            valuation: self.kind.valuation(place) as u32,
+            delay: trial as u32,
+        }
+    }
+
+    // The steps of a chain from a place.
+    fn steps(&self, from: K::Place, trials: &[u16]) -> Result<Vec<Step>, Failure> {
+        let mut steps = Vec::new(self.heap);
+        let mut at = from;
+        for trial in trials {
+            at = self.kind.step(at, *trial).ok_or(Failure::NoCase)?;
+            steps.push(self.step_into(at, *trial))?;
+        }
+        Ok(steps)
+    }
+
+    // A chain with its denominator and its delays.
+    fn chain(&self, trials: &[u16]) -> Result<Run, Failure> {
+        let (start, rest) = trials.split_first().ok_or(Failure::NoCase)?;
+        let from = self.kind.start(*start).ok_or(Failure::NoCase)?;
+        let mut steps = self.steps(from, rest)?;
+        let parts = self.kind.delays(*start, steps.as_mut_slice());
+        Ok(Run {
+            start: *start as u32,
+            parts,
+            steps,
+        })
+    }
+
+    // The denominator of a chain, and whether it is a run.
+    fn denominator(&self, chain: &Run) -> Result<Answer, Failure> {
+        let mut answer = said(self.heap, chain.parts)?;
+        answer.say(yes_or_no(chain.reaches(self.pack, TRUE)?))?;
+        Ok(answer)
+    }
+
+    // The same with the delays behind the denominator.
+    fn delays(&self, chain: &Run) -> Result<Answer, Failure> {
+        let mut answer = said(self.heap, chain.parts)?;
+        for step in chain.steps.as_slice() {
+            answer.say(step.delay)?;
+        }
+        answer.say(yes_or_no(chain.reaches(self.pack, TRUE)?))?;
+        Ok(answer)
+    }
+
+    pub(super) fn told(&self, tale: Tale, text: &str) -> Result<Answer, Failure> {
+        let trials = trials_of(self.heap, text)?;
+        let trials = trials.as_slice();
+        match tale {
+            Tale::Places => self.places(trials),
+            Tale::Delays => self.delays(&self.chain(trials)?),
+            Tale::Denominator => self.denominator(&self.chain(trials)?),
+        }
+    }
+}
