@@ -3,7 +3,7 @@
 
     python3 tools/places.py [COMMIT] [-l]     of a commit, or of the files as they are; -l lists the places
 
-docs/DESIGN-PASS.md says what each point is about.
+docs/DESIGN-PASS.md says what each point is about, and which of the hits are none.
 """
 import collections
 import glob
@@ -12,7 +12,7 @@ import subprocess
 import sys
 
 POINTS = {
-    "1a a variant that stands for none, wrong or refused": r"^\s+(Bad|Unknown|Over|Fits|No|Yes|Refused)\b.*,$",
+    "1a a variant that stands for none, wrong or refused": r"^\s+((Bad|Unknown|Over|Fits|No|Yes),$|Refused\(u8)",
     "1b a bool for whether something was filled in": r"fn \w+(<[^>]*>)?\([^)]*&mut (String|Vec)[^)]*\) -> bool",
     "1c a number for a kind or a refusal": r"\bkind: (u8|0|if\b)|const (ELAPSE|DISCRETE)\b|\.kind [!=]= |fn told\(number|fn (number|refused)\(self|\.(number|refused)\(\)",
     "2a a function or type of one name in two crates or types": None,
@@ -98,7 +98,7 @@ def main():
             point = "2c a constant of one name in two crates" if word.startswith("const ") else "2a a function or type of one name in two crates or types"
             places[point].append(f"{word}: {' '.join(sorted(files))}")
     for name, text in texts.items():
-        for found in re.finditer(r"for (\w+) in 0\.\.[^\n]*\{\n(.*?)\n    \}", text, re.S):
+        for found in re.finditer(r"for (\w+) in \(?0\.\.[^\n]*\{\n(.*?)\n    \}", text, re.S):
             if re.search(r"\[%s(?: as usize)?\]" % found.group(1), found.group(2)):
                 places["3b a for over indices that reads or writes at the index"].append(f"{name}:{line(text, found.start())} for {found.group(1)}")
     for group in GROUPS:

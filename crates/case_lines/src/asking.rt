@@ -109,6 +109,7 @@ impl<'a> Asked<'a> {
 
     // What is told of trials in a kind of time.
     fn timed(&self, kind: Kind, tale: Tale, trials: &str) -> Result<Answer, Failure> {
+        // each arm has a kind of its own type; a `dyn` would need one type of place
         match kind {
             Kind::Dense => {
                 let kind = Dense::of(self.pack);

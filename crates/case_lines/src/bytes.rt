@@ -5,6 +5,7 @@
 use super::failures::Failure;
 use std::alloc::Global;
 
+// The other program has the same of a character, with an error that names it; neither line is plainer shared.
 fn digit_of(c: u8) -> Result<u8, Failure> {
     match (c as char).to_digit(16) {
         Some(digit) => Ok(digit as u8),

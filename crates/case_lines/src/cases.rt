@@ -1,7 +1,7 @@
 // What a case is about, by the word that it begins with.
 use super::failures::Failure;
 
-// The kinds of time.
+// The kinds of time. Both programs have these two names: a crate for them alone would be no plainer.
 #[derive(Clone, Copy)]
 pub enum Kind {
     Dense,

@@ -11,7 +11,6 @@ mod asking;
 mod bytes;
 mod cases;
 mod failures;
-mod places;
 mod steps;
 mod timing;
 

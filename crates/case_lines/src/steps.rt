@@ -9,7 +9,8 @@ use model::Pack;
 use runs::check_run;
 use std::alloc::Global;
 
-// A run: its start valuation, the parts of a unit, and its steps.
+// A run: its start valuation, the parts of a unit, and its steps. Both programs have one, since the
+// libraries use no heap and so own no steps.
 #[derive(Drop)]
 pub struct Run {
     pub start: u32,
@@ -30,7 +31,9 @@ impl Run {
     }
 }
 
-// The numbers of a text that has just so many words.
+// The numbers of a text that has just so many words. This loop is in each crate that reads numbers: they
+// differ in signs and in what they say is wrong, and a shared one, with a contract of words and
+// decimals, is no plainer.
 fn numbers_of<const N: usize>(text: &str) -> Result<[u32; N], Failure> {
     let mut numbers = [0; N];
     let words = text.split_ascii_whitespace();
@@ -43,6 +46,7 @@ fn numbers_of<const N: usize>(text: &str) -> Result<[u32; N], Failure> {
     Ok(numbers)
 }
 
+// The tests of runs have one too, which ends the test where a number is none.
 fn step_of(text: &str) -> Result<Step, Failure> {
     let [kind, valuation, delay] = numbers_of::<3>(text)?;
     Ok(Step {

@@ -2,9 +2,8 @@
 use super::answers::{Answer, said, yes_or_no};
 use super::cases::Tale;
 use super::failures::Failure;
-use super::places::{Shown, Told};
 use super::steps::Run;
-use kinds::{Step, StepKind, Time};
+use kinds::{Clocked, Step, Time, Told, tried};
 use model::Pack;
 use std::alloc::{AllocError, Global};
 
@@ -30,8 +29,10 @@ fn trials_of(heap: Global, text: &str) -> Result<Vec<u16>, Failure> {
 
 impl<'a, K: Time> Timed<'a, K>
 where
-    K::Place: Shown,
+    K::Place: Clocked,
 {
+    // Says what a trial gave: the valuation, and behind commas the declared clocks. A clock is `over`, or a
+    // whole part and a rank with a dot between them, in ticked time a whole number.
     fn say_given(&self, answer: &mut Answer, given: Option<K::Place>) -> Result<(), AllocError> {
         let Some(place) = given else {
             return answer.say("nothing");
@@ -39,7 +40,9 @@ where
         let clocks = place.clocks();
         let declared = clocks.len().min(self.pack.model.sizes.clocks as usize);
         answer.say(Told {
+            front: "",
             valuation: self.kind.valuation(place),
+            gap: ",",
             clocks: &clocks[..declared],
         })
     }
@@ -60,27 +63,13 @@ where
         Ok(answer)
     }
 
-    // A step of a chain, with the number of its trial for a delay.
-    fn step_into(&self, place: K::Place, trial: u16) -> Step {
-        let step = if self.kind.elapses(trial) {
-            StepKind::Elapse
-        } else {
-            StepKind::Discrete
-        };
-        Step {
-            kind: step.into(),
-            valuation: self.kind.valuation(place) as u32,
-            delay: trial as u32,
-        }
-    }
-
     // The steps of a chain from a place.
     fn steps(&self, from: K::Place, trials: &[u16]) -> Result<Vec<Step>, Failure> {
         let mut steps = Vec::new(self.heap);
         let mut at = from;
         for trial in trials {
             at = self.kind.step(at, *trial).ok_or(Failure::NoCase)?;
-            steps.push(self.step_into(at, *trial))?;
+            steps.push(tried(self.kind, at, *trial))?;
         }
         Ok(steps)
     }
@@ -98,17 +87,10 @@ where
         })
     }
 
-    // The denominator of a chain, and whether it is a run.
-    fn denominator(&self, chain: &Run) -> Result<Answer, Failure> {
+    // The denominator of a chain, the delays of these of its steps, and whether it is a run.
+    fn timing(&self, chain: &Run, steps: &[Step]) -> Result<Answer, Failure> {
         let mut answer = said(self.heap, chain.parts)?;
-        answer.say(yes_or_no(chain.reaches(self.pack, TRUE)?))?;
-        Ok(answer)
-    }
-
-    // The same with the delays behind the denominator.
-    fn delays(&self, chain: &Run) -> Result<Answer, Failure> {
-        let mut answer = said(self.heap, chain.parts)?;
-        for step in chain.steps.as_slice() {
+        for step in steps {
             answer.say(step.delay)?;
         }
         answer.say(yes_or_no(chain.reaches(self.pack, TRUE)?))?;
@@ -120,8 +102,11 @@ where
         let trials = trials.as_slice();
         match tale {
             Tale::Places => self.places(trials),
-            Tale::Delays => self.delays(&self.chain(trials)?),
-            Tale::Denominator => self.denominator(&self.chain(trials)?),
+            Tale::Delays => {
+                let chain = self.chain(trials)?;
+                self.timing(&chain, chain.steps.as_slice())
+            }
+            Tale::Denominator => self.timing(&self.chain(trials)?, &[]),
         }
     }
 }

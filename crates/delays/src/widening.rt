@@ -3,10 +3,7 @@ ghost use Rattle.std.specs.Prelude.{◌≡◌, ◌+◌, ◌-◌, ◌<◌, ◌≤
 ghost use Rattle.delays.specs.Pace.{fitting, stretched};
 ghost use Rattle.delays.specs.Widens.{Widens};
 
-use kinds::Step;
-
-// The most steps that are widened; of more steps none is changed.
-const MOST_STEPS: usize = 65535;
+use kinds::{MOST_RECORDS, Step};
 
 // How many parts ago it is, after every unit up to now got one part more. Units without parts are
 // left as they are.
@@ -38,10 +35,11 @@ fn widened_delay(before: u64, delay: u32, parts: u32) -> u32
 pub fn widen(steps: &mut [Step], parts: u32)
     ensures { Widens steps.old parts steps.new }
 {
-    if steps.len() > MOST_STEPS {
+    if steps.len() > MOST_RECORDS {
         return;
     }
     let mut before: u64 = 0;
+    // by index: `iter_mut().rev()` was tried, and its proof knows nothing of what is written
     'steps: for i in (0..steps.len()).rev() {
         let delay = steps[i].delay;
         steps[i].delay = widened_delay(before, delay, parts);

@@ -20,9 +20,6 @@ pub more_within : (D x : ℕ) (xs : List ℕ) → x ≤ D → Within D xs → Wi
 more_within D x xs h w zero = h
 more_within D x xs h w (suc k) = w k
 
-later-within : (D E : ℕ) (xs : List ℕ) → D ≤ E → Within D xs → Within E xs
-later-within D E xs l w k = omega (arith, w k)
-
 pub fitting-few : (x : ℕ) → x ≤ 65536 → fitting x ≡ x
 fitting-few x h = omega arith
 

@@ -1,8 +1,9 @@
 -- What is true of the places of dense time.
-use Rattle.std.proofs.Common.{◌≡◌, ℕ, zero, suc, ◌+◌, ◌*◌, ◌<◌, ◌≤◌, Bool, true, false, ltb, List, sym, refl, ap, ◌∙◌, subst, arith}
+use Rattle.std.proofs.Common.{◌≡◌, ℕ, zero, suc, ◌+◌, ◌*◌, ◌<◌, ◌≤◌, Bool, true, false, ltb, List, sym, refl, ap, ◌∙◌, arith}
 use Rattle.std.proofs.lemmas.Bool.{ltb-true}
 use Rattle.instruction.specs.Sizes.{product}
 use Rattle.judging.specs.Truth.{View, compared}
+use Rattle.kinds.proofs.Equal.{given, given-below}
 use Rattle.kinds.specs.Time.{Chain, from, more}
 use Rattle.tables.specs.Tables.{four as four-bools}
 use Rattle.tables.specs.Settings.{Setting}
@@ -16,7 +17,6 @@ use Rattle.regions.proofs.Closing.{tidy-same}
 use Rattle.regions.proofs.Fours.{below-four, same-four, over-at}
 use Rattle.regions.proofs.Same.{place-by}
 use Rattle.regions.proofs.Told.{elapse-told, reset-told}
-use Rattle.dense.specs.Laws.{start_is, pass-is, enter-is}
 use Rattle.dense.specs.Trials.{place, shown, begun, origin, elapsed, moved, values, dense, Occurs, Regional}
 
 module _ (K : Setting) where
@@ -99,11 +99,12 @@ module _ (K : Setting) where
 
   module _ (none : (c : ℕ) (v : View) → K.clocks ≤ c → K.table.reset c v ≡ false) (few : K.clocks ≤ 4) where
     occurs : (i : ℕ) (is : List ℕ) (p : Place) → Chain (dense K) i is p → Occurs K p
-    occurs i _ _ (from p l h) = let g = start_is K i p h in subst (Occurs K) (sym g.1) (first-occurs i g.0)
-    occurs i _ _ (more {is = is} {p = p} zero q c l h) = subst (Occurs K) (sym (pass-is K p q h)) (elapsed-occurs few p (occurs i is p c))
+    occurs i _ _ (from p l h) = given-below (Occurs K) i (product K.table.counts) _ (origin K i) p h (λ l _. first-occurs i l)
+    occurs i _ _ (more {is = is} {p = p} zero q c l h) = given (Occurs K) _ (elapsed K p) q h (λ _. elapsed-occurs few p (occurs i is p c))
     occurs i _ _ (more {is = is} {p = p} (suc w) q c l h) =
-        let g = enter-is K p q w h in
-        subst (Occurs K) (sym g.1) (moved-occurs (values K p.valuation) (values K w) p w none few g.0 (occurs i is p c))
+        let v = values K p.valuation in
+        given-below (Occurs K) w (product K.table.counts) _ (moved K v (values K w) p w) q h
+        (λ g _. moved-occurs v (values K w) p w none few g (occurs i is p c))
 
     pub regional : Regional K
     regional =

@@ -7,10 +7,11 @@ use Rattle.judging.specs.declared.sides.Side.{Side}
 use Rattle.kinds.specs.Time.{Meaning, Chain}
 use Rattle.valuations.specs.Radix.{padded}
 use Rattle.tables.specs.Settings.{Setting}
+use Rattle.tables.specs.Trials.{Making}
 use Rattle.regions.specs.declared.clocks.Clock.{Clock}
 use Rattle.regions.specs.declared.clocks.Clock.TheVariants.{Over, Counted}
 use Rattle.regions.specs.declared.places.Place.{Place}
-use Rattle.regions.specs.Clocks.{at, limit, four_of, trim_all, capped, restarted, Sounds, Padded}
+use Rattle.regions.specs.Clocks.{at, limit, four_of, trim_all, capped, hit, restarted, Sounds, Padded}
 use Rattle.regions.specs.Gaps.{Gapless, Alike}
 use Rattle.regions.specs.Regions.{after, tidy, side_of}
 use Rattle.regions.specs.Sameness.{same_place}
@@ -71,6 +72,11 @@ module _ (K : Setting) where
   abbrev pub stepping : Place → ℕ → Option Place
   stepping p zero = passing (values p.valuation) p
   stepping p (suc w) = cond (nat_lt w (product K.table.counts)) (entering (values p.valuation) (values w) p w) None
+
+  -- what the trials are made of
+  abbrev pub making : Making Place
+  making =
+      record { setting = K; origin = origin; cleared = λ bs p w. place w (four_of (tidy 4 (λ c. capped (restarted (hit bs c) (at p.clocks c))))); standing = λ p. p.valuation; passing = passing }
 
   abbrev pub dense : Meaning Place
   dense =

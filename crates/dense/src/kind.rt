@@ -5,16 +5,15 @@ ghost use Rattle.model.specs.Reading.{layout};
 ghost use Rattle.tables.specs.Made.{made};
 ghost use Rattle.dense.specs.Trials.{dense, Regional};
 
-use super::timings::fill;
-use super::trials::{moves, starts};
 use kinds::{MOST_STEPS, Step, Time};
 use model::Pack;
 use regions::Place;
-use tables::Setting;
+use tables::{Setting, moves, starts};
 
+// A type of its own: what it says of chains is not what ticked time, over the same record, says.
 #[derive(Clone, Copy)]
 pub struct Dense<'a> {
-    setting: Setting<'a>,
+    pub(super) setting: Setting<'a>,
 }
 
 impl<'a> Dense<'a> {
@@ -49,11 +48,11 @@ impl<'a> Time for Dense<'a> {
     }
 
     fn start(&self, trial: u16) -> Option<Place> {
-        starts(&self.setting, trial)
+        starts(self, trial)
     }
 
     fn step(&self, place: Place, trial: u16) -> Option<Place> {
-        moves(&self.setting, place, trial)
+        moves(self, place, trial)
     }
 
     fn elapses(&self, trial: u16) -> bool {
@@ -77,6 +76,6 @@ impl<'a> Time for Dense<'a> {
             return 0;
         }
         let first = self.start(start);
-        fill(&self.setting, first, steps)
+        self.fill(first, steps)
     }
 }

@@ -7,21 +7,10 @@ ghost use Rattle.tables.specs.Made.{made};
 ghost use Rattle.dense.specs.Delays.{passing_of, ranked, timing, trying};
 ghost use Rattle.dense.specs.Trials.{stepping};
 
-use super::trials::moves;
+use super::kind::Dense;
 use delays::{Pace, Passing, widen};
-use kinds::Step;
+use kinds::{Step, Time};
 use regions::{Clock, Place, some_sharp};
-use tables::Setting;
-
-// The place that a trial gives; nothing from nothing.
-fn onward(setting: &Setting<'_>, at: Option<Place>, trial: u32) -> Option<Place>
-    ensures nowhere { at ≡ None → result ≡ None }
-    ensures place { (p : Place) → at ≡ Some p → result ≡ stepping (made setting.now) p trial }
-{
-    let place = at?;
-    let trial = u16::try_from(trial).ok()?;
-    moves(setting, place, trial)
-}
 
 // How time passes in a trial from a place.
 fn passing_of(place: Place, trial: u32) -> Passing
@@ -104,23 +93,35 @@ fn attempt(
     )
 }
 
-// Fills the delays of a chain from a place by the trials that the steps have for delays.
-pub(super) fn fill(setting: &Setting<'_>, first: Option<Place>, steps: &mut [Step]) -> u32
-    requires { length steps.old ≤ 65534 }
-    ensures parts { result ≡ (timing (λ _. first) (stepping (made setting.now)) 0 (trials_of steps.old)).parts }
-    ensures steps { steps.new ≡ redelayed steps.old (reverse (timing (λ _. first) (stepping (made setting.now)) 0 (trials_of steps.old)).delays) }
-{
-    let mut at = first;
-    let mut pace = Pace {
-        parts: 1,
-        fractions: [0; 4],
-    };
-    // by index: a step is lent together with all those before it, which it may widen
-    'steps: for i in 0..steps.len() {
-        let trial = steps[i].delay;
-        let next = onward(setting, at, trial);
-        pace = attempt(steps, i, pace, trial, at, next);
-        at = next;
+impl Dense<'_> {
+    // The place that a trial gives; nothing from nothing.
+    fn onward(&self, at: Option<Place>, trial: u32) -> Option<Place>
+        ensures nowhere { at ≡ None → result ≡ None }
+        ensures place { (p : Place) → at ≡ Some p → result ≡ stepping (made self.now.setting) p trial }
+    {
+        let place = at?;
+        let trial = u16::try_from(trial).ok()?;
+        self.step(place, trial)
     }
-    pace.parts
+
+    // Fills the delays of a chain from a place by the trials that the steps have for delays.
+    pub(super) fn fill(&self, first: Option<Place>, steps: &mut [Step]) -> u32
+        requires { length steps.old ≤ 65534 }
+        ensures parts { result ≡ (timing (λ _. first) (stepping (made self.now.setting)) 0 (trials_of steps.old)).parts }
+        ensures steps { steps.new ≡ redelayed steps.old (reverse (timing (λ _. first) (stepping (made self.now.setting)) 0 (trials_of steps.old)).delays) }
+    {
+        let mut at = first;
+        let mut pace = Pace {
+            parts: 1,
+            fractions: [0; 4],
+        };
+        // by index: a step is lent together with all those before it, which it may widen
+        'steps: for i in 0..steps.len() {
+            let trial = steps[i].delay;
+            let next = self.onward(at, trial);
+            pace = attempt(steps, i, pace, trial, at, next);
+            at = next;
+        }
+        pace.parts
+    }
 }

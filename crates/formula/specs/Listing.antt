@@ -29,12 +29,18 @@ pub record Onward (s : Instructions) (at : ℕ) (op : Instruction) (t : Instruct
   pub left : t.rest.now ≡ drop (width op) s.rest.now
   pub same : Same s t
 
--- the fault at the front
-pub record Faulty (s : Instructions) (x : Fault) : Type 0 where
+-- the fault at the front, behind which nothing is left
+pub record Faulty (s : Instructions) (x : Fault) (t : Instructions) : Type 0 where
   pub some : 0 < length s.rest.now
   pub fault : front s ≡ Err x
+  pub none : length t.rest.now ≡ 0
+
+-- nothing was left, and nothing is
+pub record Ended (s t : Instructions) : Type 0 where
+  pub none : length s.rest.now ≡ 0
+  pub still : length t.rest.now ≡ 0
 
 abbrev pub Gives : Instructions → Option (Result (ℕ × Instruction) Fault) → Instructions → Type 0
-Gives s None t = length s.rest.now ≡ 0
+Gives s None t = Ended s t
 Gives s (Some (Ok p)) t = Onward s p.0 p.1 t
-Gives s (Some (Err x)) t = Faulty s x
+Gives s (Some (Err x)) t = Faulty s x t

@@ -4,7 +4,7 @@ ghost use Rattle.instruction.specs.Counts.{value_counts};
 ghost use Rattle.formula.specs.Heights.{Heights, constant_of};
 
 use super::listing::Instructions;
-use instruction::{Instruction, Section, Sizes};
+use instruction::{Instruction, Sizes};
 
 fn constant_of(instruction: Instruction, clock: u8) -> u16
     ensures { result ≡ constant_of clock instruction }
@@ -21,8 +21,7 @@ pub fn highest(code: &[u8], sizes: &Sizes, clock: u8) -> u16
     ensures { Heights (value_counts sizes.now) sizes.now.clocks clock code.now result }
 {
     let mut height: u16 = 0;
-    // a transition formula may hold every mark
-    'instructions: for found in Instructions::of(code, 0, sizes, Section::Transition) {
+    'instructions: for found in Instructions::anywhere(code, sizes) {
         let Ok((_, instruction)) = found else {
             return height;
         };

@@ -6,7 +6,8 @@ use super::stepping::width_of;
 use instruction::{Fault, Instruction, Section, Sizes, next_instruction};
 
 // The bytes that are left of a formula, the position past them, and what they may speak of. It gives
-// each instruction with the position of its mark, and ends behind the first fault.
+// each instruction with the position of its mark, and ends behind the first fault. `accept` and
+// `next_instruction` take the same four: it is made of them for the one, and makes calls of the other.
 #[derive(Clone, Copy)]
 pub struct Instructions<'a> {
     rest: &'a [u8],
@@ -29,6 +30,19 @@ impl<'a> Instructions<'a> {
             sizes,
             section,
         }
+    }
+}
+
+impl<'a> Instructions<'a> {
+    // Those of a formula that has been accepted before, in whatever section: one of a transition may hold
+    // every mark. Positions are all 0.
+    pub fn anywhere(code: &'a [u8], sizes: &'a Sizes) -> Instructions<'a>
+        ensures code { result.rest.now ≡ code.now }
+        ensures end { result.end ≡ 0 }
+        ensures sizes { result.sizes.now ≡ sizes.now }
+        ensures section { result.section ≡ Section.Transition }
+    {
+        Instructions::of(code, 0, sizes, Section::Transition)
     }
 }
 

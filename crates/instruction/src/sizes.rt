@@ -4,7 +4,7 @@ ghost use Rattle.instruction.specs.Sizes.{product, ranged};
 
 // The first `variables` of `counts` are the numbers of values; `counts()` has just those. No Vec, since
 // nothing here allocates.
-#[derive(Clone, Copy, Debug, PartialEq, Eq)]
+#[derive(Clone, Copy, Debug)]
 pub struct Sizes {
     pub counts: [u8; 8],
     pub variables: u8,

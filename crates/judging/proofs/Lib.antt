@@ -3,3 +3,4 @@ pub mod Judged
 pub mod Depends
 pub mod Told
 pub mod Onward
+pub mod Apart

@@ -18,5 +18,5 @@ module _ (z : Sizes) (v : View) (it : Instructions) (e : it.end ≡ 0) (f : it.s
       turn (value_counts z) z.clocks v s at op it.rest.now (omega (arith, place z Transition 0 it e f g at op t h)) h.some h.wide (read z Transition 0 it e f g at op t h)
       ∙ ap (λ l. judged (value_counts z) z.clocks v 0 (after v op s) l) (sym h.left)
 
-  pub judge-faulty : (s : ℕ) (x : Fault) → Faulty it x → judged (value_counts z) z.clocks v 0 s it.rest.now ≡ false
-  judge-faulty s x h = no-op (value_counts z) z.clocks v s _ x it.rest.now (omega arith) h.some (fault z Transition 0 it e f g x h)
+  pub judge-faulty : (s : ℕ) (x : Fault) (t : Instructions) → Faulty it x t → judged (value_counts z) z.clocks v 0 s it.rest.now ≡ false
+  judge-faulty s x t h = no-op (value_counts z) z.clocks v s _ x it.rest.now (omega arith) h.some (fault z Transition 0 it e f g x t h)

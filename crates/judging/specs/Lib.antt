@@ -1,3 +1,4 @@
 pub mod Truth
 pub mod Judging
 pub mod Orders
+pub mod Shown

@@ -7,13 +7,14 @@
 ghost use Rattle.std.specs.Prelude.{◌≡◌, slice_index};
 ghost use Rattle.instruction.specs.Counts.{value_counts};
 ghost use Rattle.judging.specs.Truth.{meets};
-ghost use Rattle.judging.specs.Judging.{after, seen, Judges};
+ghost use Rattle.judging.specs.Judging.{after, Judges};
+ghost use Rattle.judging.specs.Shown.{shown_by};
 
 use super::readings::{Reading, Seen};
 use super::sides::Side;
 use super::stack::{lowest, pushed};
 use formula::Instructions;
-use instruction::{Compare, Instruction, Section, Sizes};
+use instruction::{Compare, Instruction, Sizes};
 
 // Whether a clock on that side of a constant compares so with it.
 fn meets(compare: Compare, side: Side) -> bool
@@ -37,7 +38,7 @@ fn value_of(values: &[u8; 8], variable: u8) -> u8
 
 // What waits after an instruction.
 fn applied<R: Reading>(instruction: Instruction, stack: u32, shown: &Seen<'_, R>) -> u32
-    ensures { result ≡ after (seen shown.now.values.now shown.now.next.now (R.side shown.now.reading.now)) instruction stack }
+    ensures { result ≡ after (shown_by R.side shown.now) instruction stack }
 {
     let value = |i| value_of(shown.values, i);
     let next = |i| value_of(shown.next, i);
@@ -57,11 +58,10 @@ fn applied<R: Reading>(instruction: Instruction, stack: u32, shown: &Seen<'_, R>
 
 // Whether a formula holds of what is seen.
 pub fn judge<R: Reading>(code: &[u8], sizes: &Sizes, shown: &Seen<'_, R>) -> bool
-    ensures { Judges (value_counts sizes.now) sizes.now.clocks (seen shown.now.values.now shown.now.next.now (R.side shown.now.reading.now)) code.now result }
+    ensures { Judges (value_counts sizes.now) sizes.now.clocks (shown_by R.side shown.now) code.now result }
 {
     let mut stack: u32 = 0;
-    // a transition formula may hold every mark
-    'instructions: for found in Instructions::of(code, 0, sizes, Section::Transition) {
+    'instructions: for found in Instructions::anywhere(code, sizes) {
         let Ok((_, instruction)) = found else {
             return false;
         };

@@ -1,5 +1,5 @@
 -- Step records: the numbers of their kinds, and records that are given delays.
-use Rattle.std.specs.Prelude.{◌≡◌, ℕ, zero, suc, ◌<◌, ◌≤◌, List, [], ◌∷◌, map, reverse, length, Ok, Err, Result}
+use Rattle.std.specs.Prelude.{◌≡◌, ℕ, cond, zero, suc, ◌<◌, ◌≤◌, List, [], ◌∷◌, map, reverse, length, Ok, Err, Result}
 use Rattle.kinds.specs.declared.steps.Step.{Step}
 use Rattle.kinds.specs.declared.steps.StepKind.{StepKind}
 use Rattle.kinds.specs.declared.steps.StepKind.TheVariants.{Elapse, Discrete}
@@ -23,6 +23,10 @@ delay_of p = p.delay
 -- a step with another delay
 abbrev pub with_delay : Step → ℕ → Step
 with_delay p d = record { kind = p.kind; valuation = p.valuation; delay = d }
+
+-- the record of a step by trial t into place p, with the number of the trial for a delay
+abbrev pub tried_as : {P : Type 0} → Meaning P → P → ℕ → Step
+tried_as k p t = record { kind = cond (k.elapses t) 0 1; valuation = k.valuation p; delay = t }
 
 -- steps with other delays, both from the first on
 unfoldable pub redelayed : List Step → List ℕ → List Step

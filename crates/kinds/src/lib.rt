@@ -6,10 +6,18 @@
 // and the law that all kinds keep speaks of that record alone.
 #![tactic(auto)]
 
+mod clocks;
+mod fours;
+mod records;
 mod slots;
 mod steps;
+mod texts;
 mod time;
 
+pub use clocks::Clocked;
+pub use fours::{begun, restarted};
+pub use records::tried;
 pub use slots::mixed;
-pub use steps::{MOST_STEPS, Step, StepKind, UnknownKind};
+pub use steps::{MOST_RECORDS, MOST_STEPS, Step, StepKind, UnknownKind};
+pub use texts::Told;
 pub use time::Time;

@@ -5,6 +5,9 @@ ghost use Rattle.kinds.specs.Steps.{kind_number, kind_of};
 // The most steps of a chain.
 pub const MOST_STEPS: usize = 65534;
 
+// The most step records of a run that is checked.
+pub const MOST_RECORDS: usize = 65535;
+
 // What a step does.
 #[derive(Clone, Copy, Debug, PartialEq, Eq)]
 pub enum StepKind {

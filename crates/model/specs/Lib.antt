@@ -5,3 +5,4 @@ pub mod Faults
 pub mod Promise
 pub mod Questions
 pub mod Parts
+pub mod Roles

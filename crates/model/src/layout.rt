@@ -22,7 +22,7 @@ pub enum Role {
 }
 
 // Of `resets`, those of declared clocks count. No Vec, since nothing here allocates.
-#[derive(Clone, Copy, Debug, PartialEq, Eq)]
+#[derive(Clone, Copy, Debug)]
 pub struct Model {
     pub sizes: Sizes,
     pub resets: [Span; 4],

@@ -11,6 +11,7 @@ mod packs;
 mod parts;
 mod questions;
 mod records;
+mod roles;
 mod sections;
 
 pub use layout::{Model, Role, Span};

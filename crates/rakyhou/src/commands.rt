@@ -2,7 +2,7 @@
 use super::failures::Failure;
 use std::env::Args;
 
-// The kinds of time.
+// The kinds of time. Both programs have these two names: a crate for them alone would be no plainer.
 #[derive(Clone, Copy)]
 pub enum Kind {
     Dense,

@@ -16,22 +16,12 @@ fn print_sizes(rt: &impl Print, sizes: &Sizes) -> io::Result<()> {
     println!(rt; "valuations {}", valuations(sizes))
 }
 
-fn section_of(role: Role) -> Section {
-    match role {
-        Role::Reset(_) => Section::Clocks,
-        Role::Start => Section::Start,
-        Role::Invariant => Section::Invariant,
-        Role::Transition => Section::Transition,
-        Role::Urgent => Section::Urgent,
-    }
-}
-
 // Where a formula lies: its section, the position of its first byte, and its length.
 fn print_formula(rt: &impl Print, pack: &Pack<'_>, role: Role) -> io::Result<()> {
     let Some(part) = pack.formula(role) else {
         return Ok(());
     };
-    let section = u8::from(section_of(role));
+    let section = u8::from(Section::from(role));
     println!(rt;
         "section {section} position {} length {}",
         part.at,

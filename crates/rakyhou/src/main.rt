@@ -8,7 +8,6 @@ mod commands;
 mod failures;
 mod lines;
 mod numbers;
-mod places;
 mod questions;
 mod texts;
 mod walks;
@@ -83,6 +82,7 @@ fn answer_walk(rt: &HostRuntime, bytes: &[u8], text: &str, kind: Kind) -> Result
         bytes,
         model: &model,
     };
+    // each arm has a kind of its own type; a `dyn` would need one type of place
     match kind {
         Kind::Dense => {
             let kind = &Dense::of(&pack);

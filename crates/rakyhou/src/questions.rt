@@ -5,6 +5,7 @@ use std::alloc::Global;
 // The word that stands for a question of no bytes.
 const NONE: &str = "-";
 
+// The program of cases has the same of a byte, with an error of its own; neither line is plainer shared.
 fn digit_of(c: char) -> Result<u8, Failure> {
     match c.to_digit(16) {
         Some(digit) => Ok(digit as u8),

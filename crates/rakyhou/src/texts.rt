@@ -114,7 +114,8 @@ fn rest_of<L: Lines>(heap: Global, text: &str, lines: &L) -> Result<Vec<L::Said>
     Ok(all)
 }
 
-// A run: its start valuation, the parts of a unit, and its steps.
+// A run: its start valuation, the parts of a unit, and its steps. Both programs have one, since the
+// libraries use no heap and so own no steps.
 #[derive(Drop)]
 pub struct Run {
     pub start: u32,

@@ -1,8 +1,7 @@
 // Walks by hand: a start trial, and then step trials, each from the place that was reached.
 use super::failures::Failure;
-use super::places::{Shown, Told};
 use super::texts::{Trials, Walk, walk_of};
-use kinds::{Step, StepKind, Time};
+use kinds::{Clocked, Step, StepKind, Time, Told, tried};
 use std::io;
 
 // A kind of time to walk in, where so many clocks are declared.
@@ -13,25 +12,11 @@ pub(super) struct Walker<'a, K> {
     pub clocks: u8,
 }
 
-// A step that was taken, with the number of its trial for a delay.
-fn step_into<K: Time>(kind: &K, place: K::Place, trial: u16) -> Step {
-    let step = if kind.elapses(trial) {
-        StepKind::Elapse
-    } else {
-        StepKind::Discrete
-    };
-    Step {
-        kind: step.into(),
-        valuation: kind.valuation(place) as u32,
-        delay: trial as u32,
-    }
-}
-
 impl<'a, K: Time> Walker<'a, K>
 where
-    K::Place: Shown,
+    K::Place: Clocked,
 {
-    // Prints what a trial gave.
+    // Prints what a trial gave: `place V`, and then a word for each declared clock.
     fn print(&self, given: Option<K::Place>) -> io::Result<()> {
         let Some(place) = given else {
             return self.rt.println("nothing");
@@ -39,7 +24,9 @@ where
         let clocks = place.clocks();
         let declared = clocks.len().min(self.clocks as usize);
         self.rt.println(Told {
+            front: "place ",
             valuation: self.kind.valuation(place),
+            gap: " ",
             clocks: &clocks[..declared],
         })
     }
@@ -57,7 +44,7 @@ where
             let given = at.and_then(|place| self.kind.step(place, *trial));
             self.print(given)?;
             if let Some(place) = &given {
-                steps.push(step_into(self.kind, *place, *trial))?;
+                steps.push(tried(self.kind, *place, *trial))?;
                 at = given;
             }
         }
@@ -70,7 +57,7 @@ where
         let parts = self.kind.delays(start, steps);
         println!(self.rt; "denominator {parts}")?;
         for step in steps {
-            if step.kind == u8::from(StepKind::Elapse) {
+            if StepKind::try_from(step.kind) == Ok(StepKind::Elapse) {
                 println!(self.rt; "delay {}", step.delay)?;
             }
         }

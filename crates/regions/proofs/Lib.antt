@@ -7,4 +7,3 @@ pub mod Keeping
 pub mod Padding
 pub mod Same
 pub mod Told
-pub mod Mixing

@@ -1,5 +1,5 @@
 -- A clock that stands as over at the end changes nothing for the others.
-use Rattle.std.proofs.Common.{◌≡◌, ℕ, zero, suc, ◌+◌, ◌<◌, ◌≤◌, max, Bool, true, false, cond, ◌||◌, List, length, sym, refl, ap, ◌∙◌, subst, arith}
+use Rattle.std.proofs.Common.{◌≡◌, ℕ, zero, suc, ◌+◌, ◌-◌, ◌<◌, ◌≤◌, max, Bool, true, false, cond, ◌||◌, List, length, sym, refl, ap, ◌∙◌, subst, arith}
 use mathlib.Core.Path.{fun_ext}
 use Rattle.std.proofs.lemmas.Bool.Decides.{nat_tests}
 use Rattle.regions.specs.declared.clocks.Clock.{Clock}
@@ -17,14 +17,14 @@ module _ (n : ℕ) (f : ℕ → Clock) (o : f n ≡ Over) where
       let z : rank_of (f n) ≡ 0 = ap rank_of o in
       grind (arith, nat_tests)
 
-  closed-less : (r : ℕ) → closed (suc n) f r ≡ closed n f r
+  pub closed-less : (r : ℕ) → closed (suc n) f r ≡ closed n f r
   unfolding closed
   closed-less zero = refl
   closed-less (suc r) =
       ap (λ x. x + cond (used (suc n) f (suc r)) 1 0) (closed-less r)
       ∙ ap (λ u. closed n f r + cond u 1 0) (used-less (suc r) (omega arith))
 
-  sharp-less : any_sharp (suc n) f ≡ any_sharp n f
+  pub sharp-less : any_sharp (suc n) f ≡ any_sharp n f
   unfolding any_sharp
   sharp-less = ap (λ p. sharp p || any_sharp n f) o
 
@@ -50,20 +50,17 @@ module _ (n : ℕ) (f : ℕ → Clock) (o : f n ≡ Over) where
       ∙ renamed-same (closed (suc n) (elapsed (suc n) M f)) (closed (suc n) (elapsed n M f)) (closed_same (suc n) (elapsed (suc n) M f) (elapsed n M f) (λ k _. elapsed-less M k)) (elapsed n M f c)
       ∙ renamed-same (closed (suc n) (elapsed n M f)) (closed n (elapsed n M f)) (closed-less n (elapsed n M f) (elapsed-over M)) (elapsed n M f c)
 
-padded-more : (n : ℕ) (f : ℕ → Clock) → Padded n f → Padded (suc n) f
-padded-more n f p c h = p c (omega arith)
-
-steps : (d n : ℕ) (M : ℕ → ℕ) (f : ℕ → Clock) → d + n ≡ 4 → Padded n f → (c : ℕ) → after 4 M f c ≡ after n M f c
-steps zero n M f e p c = let q : 4 ≡ n = omega arith in ap (λ k. after k M f c) q
-steps (suc d) n M f e p c = steps d (suc n) M f (omega arith) (padded-more n f p) c ∙ after_less n f (p n (omega arith)) M c
+-- what one clock more that is over does not change is the same of four clocks as of n, where the last are over
+pub to-four : {A : Type 0} (g : ℕ → A) (f : ℕ → Clock) → ((k : ℕ) → f k ≡ Over → g (suc k) ≡ g k) → (n : ℕ) → n ≤ 4 → Padded n f → g 4 ≡ g n
+to-four g f same n h p = steps (4 - n) n (omega arith) p
+  where
+    steps : (d k : ℕ) → d + k ≡ 4 → Padded k f → g 4 ≡ g k
+    steps zero k e p = let q : 4 ≡ k = omega arith in ap g q
+    steps (suc d) k e p = steps d (suc k) (omega arith) (λ c i. p c (omega arith)) ∙ same k (p k (omega arith))
 
 -- of n clocks, four of which the last are over tell the same
-pub fewer : (n : ℕ) (M : ℕ → ℕ) (f : ℕ → Clock) → n ≤ 4 → Padded n f → (c : ℕ) → after 4 M f c ≡ after n M f c
-fewer zero M f h p c = steps 4 0 M f refl p c
-fewer (suc zero) M f h p c = steps 3 1 M f refl p c
-fewer (suc (suc zero)) M f h p c = steps 2 2 M f refl p c
-fewer (suc (suc (suc zero))) M f h p c = steps 1 3 M f refl p c
-fewer (suc (suc (suc (suc n)))) M f h p c = steps 0 (suc (suc (suc (suc n)))) M f (omega arith) p c
+fewer : (n : ℕ) (M : ℕ → ℕ) (f : ℕ → Clock) → n ≤ 4 → Padded n f → (c : ℕ) → after 4 M f c ≡ after n M f c
+fewer n M f h p c = to-four (λ k. after k M f c) f (λ k o. after_less k f o M c) n h p
 
 over-stays : (n : ℕ) (M : ℕ → ℕ) (f : ℕ → Clock) (c : ℕ) → f c ≡ Over → after n M f c ≡ Over
 over-stays n M f c o =

@@ -4,17 +4,12 @@ use Rattle.std.proofs.Common.{arith}
 use Rattle.std.proofs.lemmas.Bool.Decides.{nat_tests}
 use Rattle.judging.specs.declared.sides.Side.TheVariants.{Below, At, Above}
 use Rattle.judging.specs.Truth.{Ordered}
+use Rattle.judging.proofs.Apart.{above-below, above-at}
 use Rattle.regions.specs.declared.clocks.Clock.{Clock}
 use Rattle.regions.specs.declared.clocks.Clock.TheVariants.{Over, Counted}
 use Rattle.regions.specs.declared.places.Place.{Place}
 use Rattle.regions.specs.Clocks.{at}
 use Rattle.regions.specs.Regions.{side_of}
-
-above-below : {A : Type 0} → Above ≡ Below → A
-above-below e = let z : ◌≡◌ {A = ℕ} 0 1 = cc in absurd (omega arith)
-
-above_at : {A : Type 0} → Above ≡ At → A
-above_at e = let z : ◌≡◌ {A = ℕ} 0 1 = cc in absurd (omega arith)
 
 below : (p : Clock) (j k : ℕ) → side_of p j ≡ Below → j ≤ k → side_of p k ≡ Below
 below Over j k e l = above-below e
@@ -25,7 +20,7 @@ above Over j k e l = refl
 above (Counted w r) j k e l = grind (arith, nat_tests)
 
 at-below : (p : Clock) (j k : ℕ) → side_of p j ≡ At → j < k → side_of p k ≡ Below
-at-below Over j k e l = above_at e
+at-below Over j k e l = above-at e
 at-below (Counted w r) j k e l = grind (arith, nat_tests)
 
 at_above : (p : Clock) (j k : ℕ) → side_of p j ≡ At → k < j → side_of p k ≡ Above

@@ -3,5 +3,6 @@ pub mod Clocks
 pub mod Gaps
 pub mod Sameness
 pub mod Slots
+pub mod Texts
 pub mod Promise
 pub mod Laws

@@ -10,6 +10,7 @@ mod elapses;
 mod gaps;
 mod places;
 mod resets;
+mod texts;
 
 pub use clocks::Clock;
 pub use elapses::{elapse, some_sharp};

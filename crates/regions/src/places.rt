@@ -11,7 +11,8 @@ use judging::{Reading, Side};
 use kinds::mixed;
 use std::cmp::Ordering;
 
-// The number of a valuation, and the clocks.
+// The number of a valuation, and the clocks. Ticked time has a struct like it: one struct over the make of
+// clock would hold an array of a type parameter, which the kit does not allow.
 #[derive(Clone, Copy, Debug, PartialEq, Eq)]
 pub struct Place {
     pub valuation: u16,

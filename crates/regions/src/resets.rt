@@ -5,26 +5,13 @@ ghost use Rattle.regions.specs.Promise.{Cleared};
 
 use super::clocks::Clock;
 use super::gaps::close_up;
-use std::array;
-
-impl Clock {
-    // Set to 0, if a reset hits it.
-    fn restart(self, hit: bool) -> Clock
-        ensures { result ≡ restarted hit self }
-    {
-        if hit {
-            Clock::Counted { whole: 0, rank: 0 }
-        } else {
-            self
-        }
-    }
-}
+use kinds::restarted;
 
 // The clocks that are reset are 0, and the rest are kept.
 fn restarts(clocks: [Clock; 4], resets: [bool; 4]) -> [Clock; 4]
     ensures { result ≡ four_of (λ c. restarted (hit resets c) (at clocks c)) }
 {
-    array::from_fn(|c| clocks[c].restart(resets[c]))
+    restarted(clocks, resets, Clock::Counted { whole: 0, rank: 0 })
 }
 
 // The clocks after a discrete step: those that it resets are 0.

@@ -1,14 +1,16 @@
 -- Step by step, what is left of a run leads on exactly when the whole does.
-use Rattle.std.proofs.Common.{◌≡◌, ℕ, ◌+◌, ◌*◌, ◌<◌, ◌≤◌, Bool, true, false, cond, ◌&&◌, ◌||◌, eqb, ltb, ◌⊎◌, List, [], ◌∷◌, length, get_or, drop, Ok, Err, Result, sym, refl, ap, ◌∙◌, subst, inl, inr, arith}
+use Rattle.std.proofs.Common.{◌≡◌, ℕ, ◌+◌, ◌*◌, ◌<◌, ◌≤◌, Bool, true, false, cond, List, [], ◌∷◌, length, get_or, drop, Ok, Err, Result, sym, refl, ap, ◌∙◌, subst, arith}
 use Rattle.std.proofs.lemmas.List.{at_drop_more, at_drop_all, drop_more, drop_all}
-use Rattle.std.proofs.lemmas.Bool.{and_parts, or_cases, ltb-true, eqb-true, false≢true}
+use Rattle.std.proofs.lemmas.Bool.{false≢true}
 use Rattle.instruction.specs.declared.faults.Fault.{Fault}
 use Rattle.instruction.specs.declared.faults.Fault.TheVariants.{RunNumbers}
 use Rattle.judging.specs.Truth.{View}
 use Rattle.kinds.specs.declared.steps.Step.{Step}
 use Rattle.runs.specs.Checks.{fine, stepping}
 use Rattle.runs.specs.Instants.{Tells}
-use Rattle.tables.specs.Tables.{Table}
+use Rattle.tables.specs.Tables.{Table, asked}
+use Rattle.runs.specs.declared.courses.Course.{Course}
+use Rattle.runs.specs.Courses.{model_of, table_of}
 use Rattle.runs.specs.Runs.{State, OneStep, waits, moves, Run, stop, on, Leads, now, view}
 
 -- four clocks after i steps
@@ -54,17 +56,20 @@ module _ (S : ℕ) (steps : List Step) where
       go true f = refl
       go false f = absurd (let z : ◌≡◌ {A = Result (Unit {0}) Fault} (Err (RunNumbers i)) (Ok tt) = sym (not-fine i d h f) ∙ e in let y : ◌≡◌ {A = ℕ} 0 1 = cc in omega arith)
 
--- what a fine step is
-pub elapse-fine : (S : ℕ) (p : Step) → fine S p ≡ true → (p.valuation < S) × ((p.kind ≡ 0) ⊎ ((p.kind ≡ 1) × (p.delay ≡ 0)))
-elapse-fine S p h =
-    let x = and_parts (eqb p.kind 0 || (eqb p.kind 1 && eqb p.delay 0)) (ltb p.valuation S) h in
-    (ltb-true p.valuation S x.1, kinds (or_cases (eqb p.kind 0) (eqb p.kind 1 && eqb p.delay 0) x.0))
-  where
-    kinds : (eqb p.kind 0 ≡ true) ⊎ ((eqb p.kind 1 && eqb p.delay 0) ≡ true) → (p.kind ≡ 0) ⊎ ((p.kind ≡ 1) × (p.delay ≡ 0))
-    kinds (inl e) = inl (eqb-true p.kind 0 e)
-    kinds (inr e) = let y = and_parts (eqb p.kind 1) (eqb p.delay 0) e in inr (eqb-true p.kind 1 y.0, eqb-true p.delay 0 y.1)
+-- of a course, the steps lead from a state on to one in which the question holds
+abbrev pub Leading : Course → List ℕ → State → List Step → Type 0
+Leading course question s steps = Leads (table_of course) (asked question (model_of course)) course.unit s steps
 
-module _ (T : Table) (q : View → Bool) (D : ℕ) where
+module _ (course : Course) (question : List ℕ) where
+  abbrev T : Table
+  T = table_of course
+
+  abbrev q : View → Bool
+  q = asked question (model_of course)
+
+  abbrev D : ℕ
+  D = course.unit
+
   -- a step leads to one state only
   only : {s : State} {p : Step} {t u : State} → OneStep T D s p t → OneStep T D s p u → t ≡ u
   only (waits k v e) (waits i w f) = refl
@@ -72,31 +77,31 @@ module _ (T : Table) (q : View → Bool) (D : ℕ) where
   only (moves k v e) (waits i w f) = absurd (omega arith)
   only (moves k v e) (moves i w f) = refl
 
-  pub leads-on : (s t : State) (p : Step) (rest : List Step) → OneStep T D s p t → Leads T q D t rest → Leads T q D s (p ∷ rest)
+  leads-on : (s t : State) (p : Step) (rest : List Step) → OneStep T D s p t → Leads T q D t rest → Leads T q D s (p ∷ rest)
   leads-on s t p rest o l = record { last = l.last; run = on p o l.run; asked = l.asked }
 
   cut : {s u : State} {p : Step} {rest : List Step} → Run T D s (p ∷ rest) u → (t : State) × OneStep T D s p t × Run T D t rest u
   cut (on p o r) = (_, o, r)
 
-  pub leads-back : (s t : State) (p : Step) (rest : List Step) → OneStep T D s p t → Leads T q D s (p ∷ rest) → Leads T q D t rest
+  leads-back : (s t : State) (p : Step) (rest : List Step) → OneStep T D s p t → Leads T q D s (p ∷ rest) → Leads T q D t rest
   leads-back s t p rest o l =
       let x = cut l.run in
       record { last = l.last; run = subst (λ y. Run T D y rest l.last) (only x.1 o) x.2; asked = l.asked }
 
-  pub leads-nowhere : (s : State) (p : Step) (rest : List Step) → ((t : State) → OneStep T D s p t → ⊥) → Leads T q D s (p ∷ rest) → ⊥
+  leads-nowhere : (s : State) (p : Step) (rest : List Step) → ((t : State) → OneStep T D s p t → ⊥) → Leads T q D s (p ∷ rest) → ⊥
   leads-nowhere s p rest h l = let x = cut l.run in h x.0 x.1
 
   ends : {s u : State} → Run T D s [] u → s ≡ u
   ends stop = refl
 
-  pub leads-here : (s : State) → q (now T D s) ≡ true → Leads T q D s []
+  leads-here : (s : State) → q (now T D s) ≡ true → Leads T q D s []
   leads-here s e = record { last = s; run = stop; asked = e }
 
-  pub led-here : (s : State) → Leads T q D s [] → q (now T D s) ≡ true
+  led-here : (s : State) → Leads T q D s [] → q (now T D s) ≡ true
   led-here s l = subst (λ y. q (now T D y) ≡ true) (sym (ends l.run)) l.asked
 
   -- the same as the loop goes
-  module _ (steps : List Step) (A : Type 0) where
+  module _ (steps : List Step) {A : Type 0} where
     pub ahead : (i : ℕ) (d : Step) (s t : State) → i < length steps → OneStep T D s (get_or steps i d) t → (Leads T q D s (drop i steps) → A) → Leads T q D t (drop (i + 1) steps) → A
     ahead i d s t h o f l = f (rw (drop_more steps i d h) (leads-on s t (get_or steps i d) (drop (i + 1) steps) o l))
 

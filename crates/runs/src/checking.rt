@@ -15,15 +15,13 @@ use super::moments::Moment;
 use super::reached::Reached;
 use instruction::Fault;
 use judging::{Seen, judge};
-use kinds::{Step, StepKind};
+use kinds::{MOST_RECORDS, Step, StepKind};
 use model::{Pack, Role, read_question};
-use tables::{Setting, says};
+use tables::{Setting, holds};
 use valuations::{valuations, values};
 
-// The largest denominator, and the largest number of steps.
+// The largest denominator.
 const MOST_PARTS: u32 = 65535;
-
-const MOST_STEPS: usize = 65535;
 
 // Whether its kind is known, a discrete one has no delay, and its valuation is one.
 fn is_fine(step: Step, valuations: u16) -> bool
@@ -52,14 +50,10 @@ fn check_steps(steps: &[Step], valuations: u16) -> Result<(), Fault>
 fn are_numbered(valuations: u16, start: u32, parts: u32, steps: &[Step]) -> bool
     ensures { result ≡ numbered valuations start parts steps.now }
 {
-    parts >= 1 && parts <= MOST_PARTS && start < u32::from(valuations) && steps.len() <= MOST_STEPS
-}
-
-// A delay fits 32 bits.
-fn delay_of(step: Step) -> u32
-    ensures { result ≡ step.delay }
-{
-    step.delay
+    parts >= 1
+        && parts <= MOST_PARTS
+        && start < u32::from(valuations)
+        && steps.len() <= MOST_RECORDS
 }
 
 impl Course<'_> {
@@ -73,13 +67,9 @@ impl Course<'_> {
             clocks: [0; 4],
             unit: self.unit,
         };
-        let shown = Seen {
-            reading: &moment,
-            values: &values,
-            next: &values,
-        };
-        says(&self.setting.pack, Role::Start, &shown)
-            && says(&self.setting.pack, Role::Invariant, &shown)
+        let pack = self.setting.pack;
+        holds(&pack, Role::Start, &values, &moment)
+            && holds(&pack, Role::Invariant, &values, &moment)
     }
 
     fn next_state(&self, at: Reached, step: Step) -> Option<Reached>
@@ -88,7 +78,8 @@ impl Course<'_> {
         ensures short { step.delay < 4294967296 }
         ensures is { Next (table_of self.now) self.now.unit (state_of at) step result }
     {
-        let _delay = delay_of(step);
+        // it is read, so that it is known to fit
+        let _delay = step.delay;
         match StepKind::try_from(step.kind) {
             Ok(StepKind::Elapse) => self.elapsed(at, step),
             Ok(StepKind::Discrete) => self.jumped(at, step),

@@ -7,20 +7,14 @@ ghost use Rattle.runs.specs.Instants.{Always, Room, Tells, sides_at};
 use super::courses::Course;
 use super::moments::Moment;
 use super::waits::{grown, just_after, soonest};
-use judging::Seen;
 use model::{Pack, Role};
-use tables::says;
+use tables::holds;
 
 // Whether the invariant holds at a moment.
 pub(super) fn valid(pack: &Pack<'_>, values: &[u8; 8], moment: &Moment) -> bool
     ensures { result ≡ lasting pack.now.bytes.now pack.now.model.now values.now (sides_at moment.now.unit (λ c. slice_index moment.now.clocks c)) }
 {
-    let shown = Seen {
-        reading: moment,
-        values,
-        next: values,
-    };
-    says(pack, Role::Invariant, &shown)
+    holds(pack, Role::Invariant, values, moment)
 }
 
 impl Course<'_> {
@@ -38,7 +32,11 @@ impl Course<'_> {
             if !valid(&pack, values, &after) {
                 return false;
             }
-            let wait = soonest(clocks, self.unit, self.setting.ceilings);
+            let now = Moment {
+                clocks,
+                unit: self.unit,
+            };
+            let wait = soonest(&now, self.setting.ceilings);
             if wait > delay {
                 return true;
             }

@@ -14,19 +14,16 @@ use super::moments::Moment;
 use super::reached::Reached;
 use super::waits::grown;
 use judging::Seen;
-use kinds::Step;
+use kinds::{Step, restarted};
 use model::{Pack, Role};
-use std::array;
-use tables::{resets, says};
+use tables::{holds, resets, says};
 use valuations::values;
 
 // All clocks after a discrete step: judged by old variables, old clocks and next variables.
 fn reset_clocks(pack: &Pack<'_>, shown: &Seen<'_, Moment>) -> [u64; 4]
     ensures { result ≡ four_of (λ k. (if says_of pack.now.bytes.now pack.now.model.now (Reset k) (seen shown.now.values.now shown.now.next.now (sides_at shown.now.reading.now.unit (λ c. slice_index shown.now.reading.now.clocks c))) then 0 else slice_index shown.now.reading.now.clocks k)) }
 {
-    let resets = resets(pack, shown);
-    let clocks = shown.reading.clocks;
-    array::from_fn(|c| if resets[c] { 0 } else { clocks[c] })
+    restarted(shown.reading.clocks, resets(pack, shown), 0)
 }
 
 impl Course<'_> {
@@ -43,12 +40,7 @@ impl Course<'_> {
         let clocks = at.clocks;
         let unit = self.unit;
         let moment = Moment { clocks, unit };
-        let shown = Seen {
-            reading: &moment,
-            values: &values,
-            next: &values,
-        };
-        if says(&self.setting.pack, Role::Urgent, &shown) {
+        if holds(&self.setting.pack, Role::Urgent, &values, &moment) {
             return None;
         }
         let delay = step.delay as u64;

@@ -7,6 +7,7 @@ ghost use Rattle.std.specs.Prelude.{◌≡◌, ◌+◌, ◌*◌, ◌^◌, ◌<�
 ghost use Rattle.runs.specs.Runs.{four_of};
 ghost use Rattle.runs.specs.Instants.{Every4, Soon, Soonest, Room};
 
+use super::moments::Moment;
 use std::array;
 
 // Parts to the next whole number, if that is up to the ceiling; else more than any delay.
@@ -24,21 +25,19 @@ fn next_whole(clock: u64, unit: u32, ceiling: u16) -> u64
 }
 
 // The same of each clock.
-fn next_wholes(clocks: [u64; 4], unit: u32, ceilings: [u16; 4]) -> [u64; 4]
-    requires { 1 ≤ unit }
+fn next_wholes(moment: &Moment, ceilings: [u16; 4]) -> [u64; 4]
     ensures some { Every4 (λ c. 1 ≤ slice_index result c) }
-    ensures soon { Every4 (λ c. Soon (slice_index clocks c) unit (slice_index ceilings c) (slice_index result c)) }
+    ensures soon { Every4 (λ c. Soon (slice_index moment.now.clocks c) moment.now.unit (slice_index ceilings c) (slice_index result c)) }
 {
-    array::from_fn(|c| next_whole(clocks[c], unit, ceilings[c]))
+    array::from_fn(|c| next_whole(moment.clocks[c], moment.unit, ceilings[c]))
 }
 
 // Parts until some clock meets a whole number up to its ceiling.
-pub(super) fn soonest(clocks: [u64; 4], unit: u32, ceilings: [u16; 4]) -> u64
-    requires { 1 ≤ unit }
-    ensures { Soonest unit clocks ceilings result }
+pub(super) fn soonest(moment: &Moment, ceilings: [u16; 4]) -> u64
+    ensures { Soonest moment.now.unit moment.now.clocks ceilings result }
 {
     // four by name: the proof of an iterator's `min` over them was tried and did not close
-    let [a, b, c, d] = next_wholes(clocks, unit, ceilings);
+    let [a, b, c, d] = next_wholes(moment, ceilings);
     a.min(b).min(c.min(d))
 }
 

@@ -22,7 +22,7 @@ use Rattle.tables.specs.Tables.{Table, reset_of, table_of, says_of, table_in}
 pub asks : (ns : List ℕ) (n : ℕ) (q : List ℕ) (f : Formula) (w : View) → Writes ns n Question q f → judged ns n w 0 0 q ≡ holds w f
 asks ns n q f w h = means ns n w Question q f h
 
-none-past : (fs : List Formula) (c : ℕ) (v : View) → length fs ≤ c → reset_of fs c v ≡ false
+pub none-past : (fs : List Formula) (c : ℕ) (v : View) → length fs ≤ c → reset_of fs c v ≡ false
 unfolding reset_of
 none-past [] c v h = refl
 none-past (f ∷ fs) ℕ.zero v h = absurd (omega arith)

@@ -1,3 +1,4 @@
 pub mod Tables
 pub mod Settings
 pub mod Made
+pub mod Trials

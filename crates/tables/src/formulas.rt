@@ -1,6 +1,7 @@
 // What the formula of a role says.
 ghost use Rattle.std.specs.Prelude.{◌≡◌};
 ghost use Rattle.judging.specs.Judging.{seen};
+ghost use Rattle.judging.specs.Shown.{shown_by};
 ghost use Rattle.model.specs.declared.layout.Role.TheVariants.{Reset};
 ghost use Rattle.model.specs.Promise.{laid};
 ghost use Rattle.model.specs.Reading.{layout};
@@ -13,7 +14,7 @@ use std::array;
 
 // Whether the formula of a role holds of what is seen. Where there is no such formula, nothing holds.
 pub fn says<R: Reading>(pack: &Pack<'_>, role: Role, shown: &Seen<'_, R>) -> bool
-    ensures answer { result ≡ says_of pack.now.bytes.now pack.now.model.now role (seen shown.now.values.now shown.now.next.now (R.side shown.now.reading.now)) }
+    ensures answer { result ≡ says_of pack.now.bytes.now pack.now.model.now role (shown_by R.side shown.now) }
     ensures system { (k : System) → Sound k → Records k pack.now.bytes.now → layout pack.now.model.now ≡ laid k → table_in pack.now.bytes.now pack.now.model.now ≡ table_of k }
 {
     match pack.formula(role) {
@@ -22,9 +23,21 @@ pub fn says<R: Reading>(pack: &Pack<'_>, role: Role, shown: &Seen<'_, R>) -> boo
     }
 }
 
+// Whether it holds of a state: its values are the next ones too.
+pub fn holds<R: Reading>(pack: &Pack<'_>, role: Role, values: &[u8; 8], reading: &R) -> bool
+    ensures { result ≡ says_of pack.now.bytes.now pack.now.model.now role (seen values.now values.now (R.side reading.now)) }
+{
+    let shown = Seen {
+        reading,
+        values,
+        next: values,
+    };
+    says(pack, role, &shown)
+}
+
 // Which clocks a discrete step resets.
 pub fn resets<R: Reading>(pack: &Pack<'_>, shown: &Seen<'_, R>) -> [bool; 4]
-    ensures { result ≡ four (λ c. says_of pack.now.bytes.now pack.now.model.now (Reset c) (seen shown.now.values.now shown.now.next.now (R.side shown.now.reading.now))) }
+    ensures { result ≡ four (λ c. says_of pack.now.bytes.now pack.now.model.now (Reset c) (shown_by R.side shown.now)) }
 {
     array::from_fn(|clock| says(pack, Role::Reset(clock as u8), shown))
 }

@@ -4,6 +4,8 @@
 mod formulas;
 mod settings;
 mod standings;
+mod trials;
 
-pub use formulas::{resets, says};
+pub use formulas::{holds, resets, says};
 pub use settings::Setting;
+pub use trials::{Trials, moves, starts};

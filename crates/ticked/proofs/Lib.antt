@@ -1,5 +1,3 @@
-pub mod Sameness
 pub mod Occurring
 pub mod Moving
 pub mod Filled
-pub mod Mixing

@@ -1,8 +1,9 @@
 -- Every place of a chain of ticked time can occur.
-use Rattle.std.proofs.Common.{◌≡◌, ℕ, zero, suc, ◌+◌, ◌*◌, ◌<◌, ◌≤◌, Bool, true, false, ltb, List, sym, refl, ap, ◌∙◌, subst, arith}
+use Rattle.std.proofs.Common.{◌≡◌, ℕ, zero, suc, ◌+◌, ◌*◌, ◌<◌, ◌≤◌, Bool, true, false, ltb, List, refl, ap, ◌∙◌, arith}
 use Rattle.std.proofs.lemmas.Bool.{ltb-true}
 use Rattle.instruction.specs.Sizes.{product}
 use Rattle.judging.specs.Truth.{View, compared}
+use Rattle.kinds.proofs.Equal.{given, given-below}
 use Rattle.kinds.specs.Time.{Chain, from, more}
 use Rattle.tables.specs.Settings.{Setting}
 use Rattle.ticked.specs.declared.places.Ticks.{Ticks}
@@ -10,7 +11,6 @@ use Rattle.ticked.specs.declared.places.Ticks.TheVariants.{Over, At}
 use Rattle.ticked.specs.declared.places.Place.{Place}
 use Rattle.ticked.specs.Ticks.{at, limit, four_of, side_of, begun, later, cleared, Under}
 use Rattle.ticked.specs.Trials.{origin, elapsed, moved, shown, values, ticked, Occurs, Ticking}
-use Rattle.ticked.specs.Laws.{start_is, pass-is, enter-is}
 
 module _ (K : Setting) where
   -- every place of a chain can occur
@@ -94,9 +94,11 @@ module _ (K : Setting) where
 
   module _ (none : (c : ℕ) (v : View) → K.clocks ≤ c → K.table.reset c v ≡ false) where
     occurs : (i : ℕ) (is : List ℕ) (p : Place) → Chain (ticked K) i is p → Occurs K p
-    occurs i _ _ (from p l h) = let g = start_is K i p h in subst (Occurs K) (sym g.1) (first-occurs i g.0)
-    occurs i _ _ (more {is = is} {p = p} zero q c l h) = subst (Occurs K) (sym (pass-is K p q h)) (elapsed-occurs p (occurs i is p c))
-    occurs i _ _ (more {is = is} {p = p} (suc w) q c l h) = let g = enter-is K p q w h in subst (Occurs K) (sym g.1) (moved-occurs none p w g.0 (occurs i is p c))
+    occurs i _ _ (from p l h) = given-below (Occurs K) i (product K.table.counts) _ (origin K i) p h (λ l _. first-occurs i l)
+    occurs i _ _ (more {is = is} {p = p} zero q c l h) = given (Occurs K) _ (elapsed K p) q h (λ _. elapsed-occurs p (occurs i is p c))
+    occurs i _ _ (more {is = is} {p = p} (suc w) q c l h) =
+        given-below (Occurs K) w (product K.table.counts) _ (moved K (values K p.valuation) (values K w) p w) q h
+        (λ g _. moved-occurs none p w g (occurs i is p c))
 
     pub ticking : Ticking K
     ticking =

@@ -1,3 +1,4 @@
 pub mod Ticks
+pub mod Texts
 pub mod Trials
 pub mod Laws

@@ -9,10 +9,11 @@ use Rattle.kinds.specs.Steps.{with_delay}
 use Rattle.kinds.specs.Time.{Meaning, Chain}
 use Rattle.valuations.specs.Radix.{padded}
 use Rattle.tables.specs.Settings.{Setting}
+use Rattle.tables.specs.Trials.{Making}
 use Rattle.ticked.specs.declared.places.Ticks.{Ticks}
 use Rattle.ticked.specs.declared.places.Ticks.TheVariants.{Over, At}
 use Rattle.ticked.specs.declared.places.Place.{Place}
-use Rattle.ticked.specs.Ticks.{at, limit, four_of, side_of, begun, later, cleared, same_place, slot_of, Under}
+use Rattle.ticked.specs.Ticks.{at, limit, four_of, side_of, begun, later, cleared, hit, same_place, slot_of, Under}
 
 -- a place, if a condition holds
 abbrev pub only : Bool → Place → Option Place
@@ -72,6 +73,11 @@ module _ (K : Setting) where
   abbrev pub stepping : Place → ℕ → Option Place
   stepping p zero = passing (values p.valuation) p
   stepping p (suc w) = cond (nat_lt w (product K.table.counts)) (entering (values p.valuation) (values w) p w) None
+
+  -- what the trials are made of
+  abbrev pub making : Making Place
+  making =
+      record { setting = K; origin = origin; cleared = λ bs p w. place w (four_of (λ c. cleared (hit bs c) (at p.clocks c))); standing = λ p. p.valuation; passing = passing }
 
   abbrev pub ticked : Meaning Place
   ticked =

@@ -6,15 +6,15 @@ ghost use Rattle.tables.specs.Made.{made};
 ghost use Rattle.ticked.specs.Trials.{ticked, Ticking};
 
 use super::places::{Place, same_places, slot_of};
-use super::trials::{moves, starts};
 use super::units::fill_units;
 use kinds::{MOST_STEPS, Step, Time};
 use model::Pack;
-use tables::Setting;
+use tables::{Setting, moves, starts};
 
+// A type of its own: what it says of chains is not what dense time, over the same record, says.
 #[derive(Clone, Copy)]
 pub struct Ticked<'a> {
-    setting: Setting<'a>,
+    pub(super) setting: Setting<'a>,
 }
 
 impl<'a> Ticked<'a> {
@@ -49,11 +49,11 @@ impl<'a> Time for Ticked<'a> {
     }
 
     fn start(&self, trial: u16) -> Option<Place> {
-        starts(&self.setting, trial)
+        starts(self, trial)
     }
 
     fn step(&self, place: Place, trial: u16) -> Option<Place> {
-        moves(&self.setting, place, trial)
+        moves(self, place, trial)
     }
 
     fn elapses(&self, trial: u16) -> bool {

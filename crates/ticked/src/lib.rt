@@ -9,6 +9,7 @@ mod clocks;
 mod kind;
 mod places;
 mod readings;
+mod texts;
 mod trials;
 mod units;
 

@@ -13,7 +13,8 @@ pub enum Ticks {
     At(u16),
 }
 
-// A clock that is not declared is over.
+// A clock that is not declared is over. Dense time has a struct like it: one struct over the make of clock
+// would hold an array of a type parameter, which the kit does not allow.
 #[derive(Clone, Copy, Debug, PartialEq, Eq)]
 pub struct Place {
     pub valuation: u16,

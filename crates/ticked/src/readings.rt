@@ -1,8 +1,8 @@
 // The reading of a ticked place, at a whole moment or half a unit later.
-ghost use Rattle.std.specs.Prelude.{◌≡◌};
+ghost use Rattle.std.specs.Prelude.{◌≡◌, false};
 ghost use Rattle.ticked.specs.Ticks.{at, side_of};
 
-use super::places::Ticks;
+use super::places::{Place, Ticks};
 use judging::{Reading, Side};
 use std::cmp::Ordering;
 
@@ -36,6 +36,19 @@ impl Ticks {
             }
         }
     }
+}
+
+// A place, at its whole moment.
+impl Reading for Place {
+    ghost use Rattle.ticked.specs.Laws.{place_ordered};
+
+    ghost side = { λ p c j. side_of false (at p.clocks c) j };
+
+    fn side_of(&self, clock: u8, constant: u16) -> Side {
+        clock_of(self.clocks, clock).side(false, constant)
+    }
+
+    ghost ordered = { place_ordered };
 }
 
 impl Reading for Moment {

@@ -11,6 +11,7 @@ use Rattle.judging.specs.Truth.{View, holds, meets}
 use Rattle.model.specs.Systems.{System, Sound, Stand}
 use Rattle.model.proofs.Reaches.{stand-parts}
 use Rattle.regions.proofs.Fours.{below-four}
+use Rattle.tables.proofs.Systems.{none-past}
 use Rattle.tables.specs.Settings.{Setting}
 use Rattle.tables.specs.Tables.{reset_of, table_of}
 use Rattle.timings.specs.Agreement.{Agrees, ceiling_of, Shows}
@@ -55,12 +56,6 @@ resets-sided ns n M [] a m i v w g = refl
 resets-sided ns n M (f ∷ fs) a m zero v w g = sided Clocks ns n M f a.0.allowed (λ c l. omega (arith, m c l)) v w g
 resets-sided ns n M (f ∷ fs) a m (suc i) v w g = resets-sided ns n M fs a.1 (λ c l. omega (arith, m c l)) i v w g
 
-resets_none : (fs : List Formula) (c : ℕ) (v : View) → length fs ≤ c → reset_of fs c v ≡ false
-unfolding reset_of
-resets_none [] c v h = refl
-resets_none (f ∷ fs) zero v h = absurd (omega arith)
-resets_none (f ∷ fs) (suc c) v h = resets_none fs c v (omega arith)
-
 ceiling-is : (k : System) (c : ℕ) → c < 4 → ceiling_of (setting_of k) c ≡ ceiling k c
 ceiling-is k = below-four (λ c. ceiling_of (setting_of k) c ≡ ceiling k c) refl refl refl refl
 
@@ -84,7 +79,7 @@ shows-with k sound q asked =
       invariant = sided Invariant ns n M k.invariant x.1.1.0.allowed (λ c l. (heights k c (omega (arith, sound.clocks))).0);
       transition = sided Transition ns n M k.transition x.1.1.1.0.allowed (λ c l. (heights k c (omega (arith, sound.clocks))).1);
       reset = resets-sided ns n M k.resets x.0 (λ c l. (heights k c (omega (arith, sound.clocks))).2);
-      none = resets_none k.resets;
+      none = none-past k.resets;
     }
 
 pub shows : (k : System) → Sound k → (f : Formula) (bytes : List ℕ) → Writes k.counts (length k.resets) Question bytes f → Shows (setting_of k) (λ v. holds v f)

@@ -1,8 +1,9 @@
 -- A step of a ticked place is a step of the state that it stands for, with a delay of one unit or none.
-use Rattle.std.proofs.Common.{◌≡◌, ℕ, zero, suc, ◌+◌, ◌*◌, ◌<◌, ◌≤◌, Bool, true, false, cond, not, ltb, ◌⊎◌, get_or, Some, None, sym, refl, ap, ◌∙◌, subst, inl, inr, mul-le-mul_right, suc-mul, arith}
-use Rattle.std.proofs.lemmas.Bool.{cases_lt, and_parts, and_from, not_from_false, ltb-true, lt-ltb}
+use Rattle.std.proofs.Common.{◌≡◌, ℕ, zero, suc, ◌+◌, ◌*◌, ◌<◌, ◌≤◌, Bool, true, false, cond, ◌⊎◌, get_or, Some, None, sym, refl, ap, ◌∙◌, subst, inl, inr, mul-le-mul_right, suc-mul, arith}
+use Rattle.std.proofs.lemmas.Bool.{cases_lt, and_parts, and_from, not_from_false, not-true, lt-ltb}
 use Rattle.instruction.specs.Sizes.{product}
 use Rattle.judging.specs.Truth.{View}
+use Rattle.kinds.proofs.Equal.{given, given-below}
 use Rattle.runs.specs.Runs.{State, now, first, later, finer, moved, Begins, Elapses, Moves}
 use Rattle.tables.specs.Settings.{Setting}
 use Rattle.ticked.specs.declared.places.Place.{Place}
@@ -10,19 +11,6 @@ use Rattle.ticked.specs.Trials.{only, values, origin, elapsed, shown, moved as m
 use Rattle.timings.specs.Agreement.{Shows}
 use Rattle.timings.specs.TickedStanding.{Past, Stands}
 use Rattle.timings.proofs.TickedPlaces.{clock-later, clock-finer, begin, moment, unit, same_whole, same_half, move}
-
--- a condition that gave a place held, and gave just that one
-given : (b : Bool) (p q : Place) → only b p ≡ Some q → (b ≡ true) × (q ≡ p)
-given true p q h = (refl, cc)
-given false p q h = absurd (let z : ◌≡◌ {A = ℕ} 0 1 = cc in omega arith)
-
-given-when : (b c : Bool) (p q : Place) → cond b (only c p) None ≡ Some q → (b ≡ true) × (c ≡ true) × (q ≡ p)
-given-when true c p q h = let g = given c p q h in (refl, g.0, g.1)
-given-when false c p q h = absurd (let z : ◌≡◌ {A = ℕ} 0 1 = cc in omega arith)
-
-calm-is : (b : Bool) → not b ≡ true → b ≡ false
-calm-is true h = absurd (let z : ◌≡◌ {A = ℕ} 0 1 = cc in omega arith)
-calm-is false h = refl
 
 module _ (K : Setting) (q : View → Bool) (S : Shows K q) where
   -- what a place shows by itself
@@ -49,15 +37,15 @@ module _ (K : Setting) (q : View → Bool) (S : Shows K q) where
 
   pub begun : (i : ℕ) (p : Place) → starting K i ≡ Some p → Begins K.table 1 i × (p ≡ origin K i)
   begun i p h =
-      let g = given-when (ltb i (product K.table.counts)) _ (origin K i) p h in
-      let b = and_parts _ _ g.1 in (
+      given-below (λ x. Begins K.table 1 i × (x ≡ origin K i)) i (product K.table.counts) _ (origin K i) p h
+      (λ l b. let g = and_parts _ _ b in (
         record {
-          within = ltb-true i (product K.table.counts) g.0;
-          starts = sym (start_is 1 i) ∙ b.0;
-          valid = sym (valid-whole 1 (origin K i) (first i) (omega arith) (begin K q S 1 i)) ∙ b.1;
+          within = l;
+          starts = sym (start_is 1 i) ∙ g.0;
+          valid = sym (valid-whole 1 (origin K i) (first i) (omega arith) (begin K q S 1 i)) ∙ g.1;
         },
-        g.2,
-      )
+        refl,
+      ))
 
   pub begins-tick : (D v : ℕ) → 1 ≤ D → Begins K.table D v → starting K v ≡ Some (origin K v)
   begins-tick D v o b =
@@ -67,15 +55,15 @@ module _ (K : Setting) (q : View → Bool) (S : Shows K q) where
   -- a unit passes exactly when every moment in it is valid
   pub passed : (D : ℕ) (p r : Place) (s : State) → 1 ≤ D → Stands K D p s → stepping K p zero ≡ Some r → Elapses K.table D s D × Stands K D r (later s D)
   passed D p r s o h e =
-      let g = given _ (elapsed K p) r e in
-      let a = and_parts _ _ g.0 in
+      given (λ x. Elapses K.table D s D × Stands K D x (later s D)) _ (elapsed K p) r e
+      (λ h'. let a = and_parts _ _ h' in
       let b = and_parts _ _ a.1 in (
         record {
-          calm = sym (urgent-same D p s h.valuation) ∙ calm-is _ a.0;
+          calm = sym (urgent-same D p s h.valuation) ∙ not-true _ a.0;
           valid = λ n f l k m. go b.0 b.1 n f l k m (cases_lt f (n * D));
         },
-        subst (λ x. Stands K D x (later s D)) (sym g.1) (unit K q S D p (later s D) (subst (λ N. Past K N D p (later s D)) (omega arith) (moment K q S D 1 D p s (later s D) h refl (λ c l. clock-later s D c l ∙ omega arith)))),
-      )
+        unit K q S D p (later s D) (subst (λ N. Past K N D p (later s D)) (omega arith) (moment K q S D 1 D p s (later s D) h refl (λ c l. clock-later s D c l ∙ omega arith))),
+      ))
     where
       go : K.table.invariant (own true p) ≡ true → K.table.invariant (own false (elapsed K p)) ≡ true → (n f : ℕ) → 1 ≤ n → 0 < f → f ≤ n * D → (f < n * D) ⊎ (n * D ≤ f) → K.table.invariant (now K.table (n * D) (later (finer n s) f)) ≡ true
       go x y n f l k m (inl z) = sym (valid-half (n * D) f p (later (finer n s) f) k z (moment K q S D n f p s (later (finer n s) f) h refl (λ c i. clock-later (finer n s) f c i ∙ ap (λ u. u + f) (clock-finer n s c i)))) ∙ x
@@ -86,15 +74,15 @@ module _ (K : Setting) (q : View → Bool) (S : Shows K q) where
   pub entered : (D : ℕ) (p r : Place) (s : State) (w : ℕ) → 1 ≤ D → Stands K D p s → stepping K p (suc w) ≡ Some r → Moves K.table D s w × Stands K D r (moved K.table D s w)
   entered D p r s w o h e =
       let t = moved_to K (values K p.valuation) (values K w) p w in
-      let g = given-when (ltb w (product K.table.counts)) _ t r e in
-      let b = and_parts _ _ g.1 in (
+      given-below (λ x. Moves K.table D s w × Stands K D x (moved K.table D s w)) w (product K.table.counts) _ t r e
+      (λ l g. let b = and_parts _ _ g in (
         record {
-          within = ltb-true w (product K.table.counts) g.0;
+          within = l;
           allowed = sym (S.transition _ _ (same_whole K q S D p s w o h)) ∙ b.0;
           valid = sym (valid-whole D t (moved K.table D s w) o (move K q S D p s w o h)) ∙ b.1;
         },
-        subst (λ x. Stands K D x (moved K.table D s w)) (sym g.2) (move K q S D p s w o h),
-      )
+        move K q S D p s w o h,
+      ))
 
   pub moves-tick : (D : ℕ) (p : Place) (s : State) (w : ℕ) → 1 ≤ D → Stands K D p s → Moves K.table D s w → stepping K p (suc w) ≡ Some (moved_to K (values K p.valuation) (values K w) p w)
   moves-tick D p s w o h m =

@@ -1,8 +1,9 @@
 -- What the trials of dense time say, of places that can occur.
-use Rattle.std.proofs.Common.{◌≡◌, ℕ, zero, suc, ◌<◌, ◌≤◌, Bool, true, false, cond, not, ◌&&◌, ltb, List, Some, None, Option, sym, refl, ap, ◌∙◌, subst, arith}
-use Rattle.std.proofs.lemmas.Bool.{ltb-true, lt-ltb}
+use Rattle.std.proofs.Common.{◌≡◌, ℕ, zero, suc, ◌<◌, ◌≤◌, true, false, cond, not, List, Some, refl, ap, ◌∙◌}
+use Rattle.std.proofs.lemmas.Bool.{and_parts, not-true, lt-ltb}
 use Rattle.instruction.specs.Sizes.{product}
 use Rattle.judging.specs.Truth.{View}
+use Rattle.kinds.proofs.Equal.{given, given-below}
 use Rattle.kinds.specs.Time.{Chain}
 use Rattle.tables.specs.Settings.{Setting}
 use Rattle.regions.specs.declared.clocks.Clock.{Clock}
@@ -11,7 +12,7 @@ use Rattle.regions.specs.declared.places.Place.{Place}
 use Rattle.regions.specs.Clocks.{at, Padded}
 use Rattle.regions.specs.Regions.{after, tidy}
 use Rattle.regions.proofs.Padding.{fewer-at}
-use Rattle.dense.specs.Trials.{only, shown, values, origin, elapsed, moved, starting, stepping, dense, Occurs}
+use Rattle.dense.specs.Trials.{shown, values, origin, elapsed, moved, starting, stepping, dense, Occurs}
 use Rattle.dense.proofs.Occurring.{regional}
 use Rattle.timings.specs.Agreement.{ceiling_of}
 use Rattle.timings.proofs.Fewer.{tidy-at}
@@ -47,26 +48,12 @@ module _ (K : Setting) where
     pub valid : K.table.invariant (alone K q) ≡ true
     pub clocks : at q.clocks ≡ cleared p w
 
--- a condition of two parts that gave a place
-pub both-held : (a b : Bool) (p q : Place) → only (a && b) p ≡ Some q → (a ≡ true) × (b ≡ true) × (q ≡ p)
-both-held true true p q h = (refl, refl, cc)
-both-held true false p q h = absurd (let z : ◌≡◌ {A = ℕ} 0 1 = cc in omega arith)
-both-held false b p q h = absurd (let z : ◌≡◌ {A = ℕ} 0 1 = cc in omega arith)
-
-when-held : (b : Bool) (o : Option Place) (q : Place) → cond b o None ≡ Some q → (b ≡ true) × (o ≡ Some q)
-when-held true o q h = (refl, h)
-when-held false o q h = absurd (let z : ◌≡◌ {A = ℕ} 0 1 = cc in omega arith)
-
-not_so : (b : Bool) → not b ≡ true → b ≡ false
-not_so true h = sym h
-not_so false h = refl
-
 -- a start trial that gave a place
 pub began : (K : Setting) (i : ℕ) (p : Place) → starting K i ≡ Some p → Began K i × (p ≡ origin K i)
 began K i p h =
-    let a = when-held (ltb i (product K.table.counts)) _ p h in
-    let b = both-held (K.table.start (alone K (origin K i))) (K.table.invariant (alone K (origin K i))) (origin K i) p a.1 in
-    (record { within = ltb-true i (product K.table.counts) a.0; starts = b.0; valid = b.1 }, b.2)
+    given-below (λ x. Began K i × (x ≡ origin K i)) i (product K.table.counts) _ (origin K i) p h
+    (λ l b. let g = and_parts (K.table.start (alone K (origin K i))) (K.table.invariant (alone K (origin K i))) b in
+    (record { within = l; starts = g.0; valid = g.1 }, refl))
 
 module _ (K : Setting) (few : K.clocks ≤ 4) (none : (c : ℕ) (v : View) → K.clocks ≤ c → K.table.reset c v ≡ false) where
   pub occurs : {i : ℕ} {is : List ℕ} {p : Place} → Chain (dense K) i is p → Occurs K p
@@ -89,15 +76,16 @@ module _ (K : Setting) (few : K.clocks ≤ 4) (none : (c : ℕ) (v : View) → K
   -- a trial that gave a place
   pub passed : (p q : Place) → Occurs K p → stepping K p zero ≡ Some q → Passed K p q
   passed p q o h =
-      let b = both-held (not (K.table.urgent (alone K p))) (K.table.invariant (alone K (elapsed K p))) (elapsed K p) q h in
-      subst (Passed K p) (sym b.2) (record { stays = refl; calm = not_so (K.table.urgent (alone K p)) b.0; valid = b.1; clocks = elapsed-at p o })
+      given (Passed K p) _ (elapsed K p) q h
+      (λ b. let g = and_parts (not (K.table.urgent (alone K p))) (K.table.invariant (alone K (elapsed K p))) b in
+      record { stays = refl; calm = not-true (K.table.urgent (alone K p)) g.0; valid = g.1; clocks = elapsed-at p o })
 
   pub entered : (p q : Place) (w : ℕ) → Occurs K p → stepping K p (suc w) ≡ Some q → Entered K p w q
   entered p q w o h =
       let m : Place = moved K (values K p.valuation) (values K w) p w in
-      let a = when-held (ltb w (product K.table.counts)) _ q h in
-      let b = both-held (K.table.transition (sight K p w)) (K.table.invariant (alone K m)) m q a.1 in
-      subst (Entered K p w) (sym b.2) (record { within = ltb-true w (product K.table.counts) a.0; comes = refl; allowed = b.0; valid = b.1; clocks = moved_at p w o })
+      given-below (Entered K p w) w (product K.table.counts) _ m q h
+      (λ l b. let g = and_parts (K.table.transition (sight K p w)) (K.table.invariant (alone K m)) b in
+      record { within = l; comes = refl; allowed = g.0; valid = g.1; clocks = moved_at p w o })
 
 -- what makes a trial give a place
 pub begins : (K : Setting) (v : ℕ) → Began K v → starting K v ≡ Some (origin K v)

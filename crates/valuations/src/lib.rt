@@ -19,13 +19,15 @@ pub fn valuations(sizes: &Sizes) -> u16
     sizes.counts().iter().map(|n| u16::from(*n)).product()
 }
 
-// The value of each variable in a valuation, by the variable's index; 0 where there is none.
+// The value of each variable in a valuation, by the variable's index; 0 where there is none. An array,
+// since nothing here allocates.
 // Of a number that is no valuation, the values of its remainder by the number of valuations.
 pub fn values(sizes: &Sizes, valuation: u16) -> [u8; 8]
     ensures { Values (value_counts sizes.now) valuation result }
 {
     let mut values = [0u8; 8];
     let mut left = valuation;
+    // by index: what is written through `iter_mut()` from the last on is not known behind the loop
     'variables: for (i, n) in sizes.counts().iter().enumerate().rev() {
         let n = u16::from(*n);
         values[i] = (left % n) as u8;

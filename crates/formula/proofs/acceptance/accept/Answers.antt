@@ -9,7 +9,7 @@ pub returns-in_err-at : goal.returns-in_err-at
 returns-in_err-at c =
     let i = c.instructions.invariant in
     let p = err_from_is_err_and c.from_residual.result c.from_residual.ensures.1 in
-    let e = walk-faulty _ _ _ _ i.2 i.3 i.4 c.instructions.waiting _ (faulty _ _ _ _ c.in_err-at.was c.in-Some.ensures.steps) in
+    let e = walk-faulty _ _ _ _ i.2 i.3 i.4 c.instructions.waiting _ _ (faulty _ _ _ _ c.in_err-at.was c.in-Some.ensures.steps) in
     told _ _ _ _ _ _ (cc (p.1, p.2, e, i.5))
 
 pub returns-in_err-waiting : goal.returns-in_err-waiting
@@ -27,8 +27,8 @@ instructions-preserved c =
 
 pub returns-then-waiting-eq1 : goal.returns-then-waiting-eq1
 returns-then-waiting-eq1 c =
-    told _ _ _ _ _ _ (sym (one_left _ _ _ _ _ _ c.in-None.ensures.steps c.if-waiting-eq1.true) ∙ c.instructions.invariant.5)
+    told _ _ _ _ _ _ (sym (one_left _ _ _ _ _ _ c.in-None.ensures.steps.none c.if-waiting-eq1.true) ∙ c.instructions.invariant.5)
 
 pub returns-else-waiting-eq1 : goal.returns-else-waiting-eq1
 returns-else-waiting-eq1 c =
-    told _ _ _ _ _ _ (sym (not-one-left _ _ _ _ _ _ c.in-None.ensures.steps c.if-waiting-eq1.false) ∙ c.instructions.invariant.5)
+    told _ _ _ _ _ _ (sym (not-one-left _ _ _ _ _ _ c.in-None.ensures.steps.none c.if-waiting-eq1.false) ∙ c.instructions.invariant.5)

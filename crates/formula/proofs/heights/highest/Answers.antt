@@ -6,7 +6,7 @@ use Rattle.formula.proofs.heights.highest.Goals as goal
 pub returns-in_default : goal.returns-in_default
 returns-in_default c =
     let i = c.instructions.invariant in
-    measured _ _ _ _ _ (sym (scan-faulty _ _ _ i.2 i.3 i.4 c.instructions.height _ (faulty _ _ _ _ c.in_default.is c.in-Some.ensures.steps)) ∙ i.5)
+    measured _ _ _ _ _ (sym (scan-faulty _ _ _ i.2 i.3 i.4 c.instructions.height _ _ (faulty _ _ _ _ c.in_default.is c.in-Some.ensures.steps)) ∙ i.5)
 
 pub instructions-preserved : goal.instructions-preserved
 instructions-preserved c =
@@ -16,4 +16,4 @@ instructions-preserved c =
 
 pub returns : goal.returns
 returns c =
-    measured _ _ _ _ _ (sym (ended _ _ _ c.instructions.height c.instructions.found-iterator.rest.now c.in-None.ensures.steps) ∙ c.instructions.invariant.5)
+    measured _ _ _ _ _ (sym (ended _ _ _ c.instructions.height c.instructions.found-iterator.rest.now c.in-None.ensures.steps.none) ∙ c.instructions.invariant.5)

@@ -8,7 +8,7 @@ use Rattle.judging.proofs.judgement.judge.Goals as goal
 pub returns-in_default : goal.returns-in_default
 returns-in_default g c =
     let i = c.instructions.invariant in
-    judges _ _ _ _ _ (sym (judge-faulty _ _ _ i.2 i.3 i.4 c.instructions.stack _ (faulty _ _ _ _ c.in_default.is c.in-Some.ensures.steps)) ∙ i.5)
+    judges _ _ _ _ _ (sym (judge-faulty _ _ _ i.2 i.3 i.4 c.instructions.stack _ _ (faulty _ _ _ _ c.in_default.is c.in-Some.ensures.steps)) ∙ i.5)
 
 pub instructions-preserved : goal.instructions-preserved
 instructions-preserved g c =
@@ -18,4 +18,4 @@ instructions-preserved g c =
 
 pub returns : goal.returns
 returns g c =
-    judges _ _ _ _ _ (c.lowest.ensures ∙ sym (ended _ _ _ c.instructions.stack c.instructions.found-iterator.rest.now c.in-None.ensures.steps) ∙ c.instructions.invariant.5)
+    judges _ _ _ _ _ (c.lowest.ensures ∙ sym (ended _ _ _ c.instructions.stack c.instructions.found-iterator.rest.now c.in-None.ensures.steps.none) ∙ c.instructions.invariant.5)

@@ -9,21 +9,24 @@ use Rattle.runs.proofs.checking.check_run.Goals as goal
 pub returns-in_err-read_question : goal.returns-in_err-read_question
 returns-in_err-read_question c =
     let p = err_from_is_err_and c.from_residual.result c.from_residual.ensures.1 in
-    rw (p.1, p.2) (bad-question c.args.pack.now.bytes.now c.args.pack.now.model.now c.args.question.now c.args.start c.args.parts c.args.steps.now _ c.in_err-read_question.ensures.answer)
+    rw (p.1, p.2) (bad-question c.in_err-read_question.ensures.answer)
 
 pub returns-then-not-are_numbered : goal.returns-then-not-are_numbered
 returns-then-not-are_numbered c =
-    bad-numbers c.args.pack.now.bytes.now c.args.pack.now.model.now c.args.question.now c.args.start c.args.parts c.args.steps.now c.in_ok-read_question.ensures.answer c.valuations-valuations.result c.valuations-valuations.ensures c.if-not-are_numbered.ensures
+    bad-numbers c.in_ok-read_question.ensures.answer c.valuations-valuations.ensures c.if-not-are_numbered.ensures
 
 pub returns-in_err-check_steps : goal.returns-in_err-check_steps
 returns-in_err-check_steps c =
     let p = err_from_is_err_and c.from_residual-in_err-check_steps.result c.from_residual-in_err-check_steps.ensures.1 in
-    rw (p.1, p.2) (bad-steps c.args.pack.now.bytes.now c.args.pack.now.model.now c.args.question.now c.args.start c.args.parts c.args.steps.now c.in_ok-read_question.ensures.answer c.valuations-valuations.result c.valuations-valuations.ensures _ c.if-not-are_numbered.ensures c.in_err-check_steps.ensures)
+    rw (p.1, p.2) (bad-steps c.in_ok-read_question.ensures.answer c.valuations-valuations.ensures c.if-not-are_numbered.ensures c.in_err-check_steps.ensures)
 
 pub returns-then-not-begins : goal.returns-then-not-begins
 returns-then-not-begins c =
-    no_start c.args.pack.now.bytes.now c.args.pack.now.model.now c.args.question.now c.args.start c.args.parts c.args.steps.now c.in_ok-read_question.ensures.answer c.valuations-valuations.result c.valuations-valuations.ensures c.if-not-are_numbered.ensures c.in_ok-check_steps.ensures (subst (λ p. Tells false (Begins (table_in p.bytes.now p.model.now) c.args.parts c.args.start)) c.of.ensures c.if-not-begins.ensures)
+    no_start c.in_ok-read_question.ensures.answer c.valuations-valuations.ensures c.if-not-are_numbered.ensures c.in_ok-check_steps.ensures
+    (subst (λ p. Tells false (Begins (table_in p.bytes.now p.model.now) c.args.parts c.args.start)) c.of.ensures c.if-not-begins.ensures)
 
 pub returns : goal.returns
 returns c =
-    led c.args.pack.now.bytes.now c.args.pack.now.model.now c.args.question.now c.args.start c.args.parts c.args.steps.now c.in_ok-read_question.ensures.answer c.valuations-valuations.result c.valuations-valuations.ensures c.follows.result c.if-not-are_numbered.ensures c.in_ok-check_steps.ensures (subst (λ p. Tells true (Begins (table_in p.bytes.now p.model.now) c.args.parts c.args.start)) c.of.ensures c.if-not-begins.ensures) (subst (λ p. Tells c.follows.result (Leads (table_in p.bytes.now p.model.now) (asked c.args.question.now p.model.now) c.args.parts (first c.args.start) c.args.steps.now)) c.of.ensures c.follows.ensures)
+    led c.in_ok-read_question.ensures.answer c.valuations-valuations.ensures c.if-not-are_numbered.ensures c.in_ok-check_steps.ensures
+    (subst (λ p. Tells true (Begins (table_in p.bytes.now p.model.now) c.args.parts c.args.start)) c.of.ensures c.if-not-begins.ensures)
+    (subst (λ p. Tells c.follows.result (Leads (table_in p.bytes.now p.model.now) (asked c.args.question.now p.model.now) c.args.parts (first c.args.start) c.args.steps.now)) c.of.ensures c.follows.ensures)

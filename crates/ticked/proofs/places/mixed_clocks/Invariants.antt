@@ -1,7 +1,7 @@
 use Rattle.std.proofs.Common.{◌≡◌}
-use Rattle.ticked.specs.Ticks.{at}
-use Rattle.ticked.proofs.Mixing.{mixed_to}
+use Rattle.kinds.proofs.Mixing.{mixed_to}
+use Rattle.ticked.specs.Ticks.{at, code}
 use Rattle.ticked.proofs.places.mixed_clocks.Given as goal
 
 abbrev pub invariant-clocks : goal.invariant-clocks
-invariant-clocks l = l.sum ≡ mixed_to l.fn.begun l.clock-index (at l.fn.clocks)
+invariant-clocks l = l.sum ≡ mixed_to code l.fn.begun l.clock-index (at l.fn.clocks)
