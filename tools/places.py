@@ -85,7 +85,7 @@ def main():
     asked |= {"main", "fmt", "from", "try_from", "next", "fn"}
     for name, text in texts.items():
         crate = name.split("/")[1]
-        plain = re.sub(r"#\[test\]\nfn \w+", "", text)
+        plain = re.sub(r"#\[test\]\nfn \w+", "", re.sub(r"//.*", "", text))
         for at, function, _ in functions(plain):
             if function not in asked:
                 by_name[function].add(name)

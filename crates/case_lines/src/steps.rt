@@ -31,9 +31,9 @@ impl Run {
     }
 }
 
-// The numbers of a text that has just so many words. This loop is in each crate that reads numbers: they
-// differ in signs and in what they say is wrong, and a shared one, with a contract of words and
-// decimals, is no plainer.
+// The numbers of a text that has just so many words. This loop is in each crate that reads numbers:
+// they differ in what they say is wrong, and a shared one, with a contract of words and decimals, is no
+// plainer.
 fn numbers_of<const N: usize>(text: &str) -> Result<[u32; N], Failure> {
     let mut numbers = [0; N];
     let words = text.split_ascii_whitespace();

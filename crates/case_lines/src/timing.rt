@@ -37,6 +37,7 @@ where
         let Some(place) = given else {
             return answer.say("nothing");
         };
+        // what is told borrows the clocks that it is cut to, so no function can hand it out
         let clocks = place.clocks();
         let declared = clocks.len().min(self.pack.model.sizes.clocks as usize);
         answer.say(Told {

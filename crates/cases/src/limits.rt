@@ -81,7 +81,7 @@ fn largest_record(rt: HostRuntime) -> Result<(), Fail> {
     Ok(())
 }
 
-// The fault of a formula that is one byte alone.
+// The fault of a formula that is one byte alone, in the section of this number.
 fn alone(mark: u8, section: u8) -> Option<u8> {
     let with_next = section == 2 || section == 5;
     let with_clocks = with_next || section == 4;

@@ -6,7 +6,7 @@ use std::process::Abort;
 use std::test::Fail;
 
 // The sections that hold a formula: the resets, start, invariant, transition and urgent, and the
-// question.
+// question. The cases have sections as numbers, for what is answered is a number, and these are fixed.
 pub(super) const ALL: [u8; 6] = [2, 3, 4, 5, 6, 7];
 
 const QUESTION: u8 = 7;

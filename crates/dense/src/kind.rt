@@ -17,7 +17,8 @@ pub struct Dense<'a> {
 }
 
 impl<'a> Dense<'a> {
-    // Dense time over a model and the bytes it was read from.
+    // Dense time over a model and the bytes it was read from. A setting has its own ceilings; here they are
+    // promised of the caller's record.
     pub fn of(pack: &Pack<'a>) -> Dense<'a>
         ensures bytes { result.setting.pack.bytes.now ≡ pack.now.bytes.now }
         ensures model { result.setting.pack.model.now ≡ pack.now.model.now }
@@ -30,6 +31,8 @@ impl<'a> Dense<'a> {
     }
 }
 
+// Written out for each kind, by `starts` and `moves` where they are alike: one for every kind of trials would
+// implement another crate's trait for a type parameter, which Rust does not allow.
 impl<'a> Time for Dense<'a> {
     ghost use Rattle.dense.specs.Laws.{lawful_in};
 

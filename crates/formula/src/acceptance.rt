@@ -7,7 +7,8 @@ use super::listing::Instructions;
 use super::stepping::waiting_after;
 use instruction::{Fault, Section, Sizes};
 
-// Whether the bytes are a formula of this section; `end` is the position past them.
+// Whether the bytes are a formula of this section; `end` is the position past them. The struct of these
+// four is `Instructions`, which this makes and walks through.
 pub fn accept(code: &[u8], end: usize, sizes: &Sizes, section: Section) -> Result<(), Fault>
     ensures { Accepts (value_counts sizes.now) sizes.now.clocks section end code.now result }
 {

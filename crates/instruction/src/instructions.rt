@@ -38,7 +38,7 @@ pub enum Instruction {
 }
 
 // The instruction at the front of what is left of a formula; `end` is the position past the
-// formula.
+// formula. The struct of these four is `Front`, which this makes.
 pub fn next_instruction(
     rest: &[u8],
     end: usize,

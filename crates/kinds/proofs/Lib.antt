@@ -1,3 +1,3 @@
 pub mod Equal
 mod Writing
-pub mod Mixing
+mod Mixing

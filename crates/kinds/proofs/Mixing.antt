@@ -1,7 +1,7 @@
--- The codes of the first n items, mixed one after the other into s.
+-- The first n codes, mixed one after the other into s.
 use Rattle.std.proofs.Common.{ℕ, zero, suc}
 use Rattle.kinds.specs.Slots.{mixing}
 
-abbrev pub mixed_to : {A : Type 0} → (A → ℕ) → ℕ → ℕ → (ℕ → A) → ℕ
-mixed_to code s zero f = s
-mixed_to code s (suc n) f = mixing (mixed_to code s n f) (code (f n))
+abbrev pub mixed_to : ℕ → ℕ → (ℕ → ℕ) → ℕ
+mixed_to s zero f = s
+mixed_to s (suc n) f = mixing (mixed_to s n f) (f n)

@@ -22,3 +22,10 @@ pub fn restarted<C: Copy>(clocks: [C; 4], resets: [bool; 4], zero: C) -> [C; 4]
         { if resets[c] { zero } else { clocks[c] } },
     )
 }
+
+// The clock of a number. One that is not there counts as the one that is given for it.
+pub fn clock_or<C: Copy>(clocks: [C; 4], clock: u8, over: C) -> C
+    ensures { result ≡ slice_index_or clocks clock over }
+{
+    clocks.get(clock as usize).copied().unwrap_or(over)
+}

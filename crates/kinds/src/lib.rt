@@ -15,9 +15,9 @@ mod texts;
 mod time;
 
 pub use clocks::Clocked;
-pub use fours::{begun, restarted};
+pub use fours::{begun, clock_or, restarted};
 pub use records::tried;
-pub use slots::mixed;
+pub use slots::{mixed, slot_of};
 pub use steps::{MOST_RECORDS, MOST_STEPS, Step, StepKind, UnknownKind};
 pub use texts::Told;
 pub use time::Time;

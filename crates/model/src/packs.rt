@@ -7,7 +7,8 @@ use super::parts::{Part, part_at, span_of};
 
 impl Model {
     // The formula of a role in the record that the model was read from; nothing for the reset of a
-    // clock that is not declared. Of another record, what that one has at the same place.
+    // clock that is not declared. Of another record, what that one has at the same place. It is for callers
+    // who have no pack.
     pub fn formula<'a>(&self, bytes: &'a [u8], role: Role) -> Option<Part<'a>>
         ensures { contents result ≡ held bytes.now (span_of self.now role) }
     {

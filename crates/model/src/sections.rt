@@ -27,7 +27,7 @@ impl<'a> Left<'a> {
         let [high, low, body @ ..] = self.bytes else {
             return Err(Fault::Ended(section, self.end));
         };
-        let len = usize::from(*high) * 256 + usize::from(*low);
+        let len = usize::from(u16::from_be_bytes([*high, *low]));
         if len > LONGEST_FORMULA {
             return Err(Fault::TooLong(section, self.end.saturating_sub(self.bytes.len())));
         }

@@ -35,9 +35,9 @@ fn number_of(word: &str) -> Option<u32> {
     word.parse::<u32>().ok()
 }
 
-// The numbers of a line that has just so many words. This loop is in each crate that reads numbers: they
-// differ in signs and in what they say is wrong, and a shared one, with a contract of words and
-// decimals, is no plainer.
+// The numbers of a line that has just so many words. This loop is in each crate that reads numbers:
+// they differ in what they say is wrong, this one in signs too, and a shared one, with a contract of words
+// and decimals, is no plainer.
 pub(super) fn numbers_of<const N: usize>(line: &str) -> Result<[u32; N], Flaw> {
     let mut numbers = [0; N];
     let words = line.split_ascii_whitespace();

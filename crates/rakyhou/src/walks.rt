@@ -21,6 +21,7 @@ where
         let Some(place) = given else {
             return self.rt.println("nothing");
         };
+        // what is told borrows the clocks that it is cut to, so no function can hand it out
         let clocks = place.clocks();
         let declared = clocks.len().min(self.clocks as usize);
         self.rt.println(Told {

@@ -113,6 +113,7 @@ fn rolls(clocks: [Clock; 4], top: u8) -> [Clock; 4]
     requires { Every (λ p. whole_of p < 65535) clocks }
     ensures { result ≡ four_of (λ c. roll top (at clocks c)) }
 {
+    // By index: `map` was tried, and the check does not see that each clock it hands on is one of the four.
     array::from_fn(|c| clocks[c].rolled(top))
 }
 

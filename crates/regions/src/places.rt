@@ -8,7 +8,7 @@ ghost use Rattle.regions.specs.Laws.{place_ordered};
 
 use super::clocks::Clock;
 use judging::{Reading, Side};
-use kinds::mixed;
+use kinds::clock_or;
 use std::cmp::Ordering;
 
 // The number of a valuation, and the clocks. Ticked time has a struct like it: one struct over the make of
@@ -19,15 +19,9 @@ pub struct Place {
     pub clocks: [Clock; 4],
 }
 
-// A clock that the place has not counts as over.
-fn clock_at(clocks: [Clock; 4], clock: u8) -> Clock
-    ensures { result ≡ at clocks clock }
-{
-    clocks.get(clock as usize).copied().unwrap_or(Clock::Over)
-}
-
 impl Clock {
-    // Where it stands to a constant.
+    // Where it stands to a constant. Ticked time has a function like it: each reads its own clock, and
+    // `cmp` is what they share.
     fn side(self, constant: u16) -> Side
         ensures { result ≡ side_of self constant }
     {
@@ -57,8 +51,9 @@ impl Clock {
 impl Reading for Place {
     ghost side = { λ p c j. side_of (at p.clocks c) j };
 
+    // A clock that the place has not counts as over.
     fn side_of(&self, clock: u8, constant: u16) -> Side {
-        clock_at(self.clocks, clock).side(constant)
+        clock_or(self.clocks, clock, Clock::Over).side(constant)
     }
 
     ghost ordered = { place_ordered };
@@ -76,10 +71,6 @@ impl Place {
     pub fn slot(self) -> u16
         ensures { result ≡ slot_of self }
     {
-        let mut sum = mixed(0, self.valuation as u32);
-        'clocks: for clock in self.clocks {
-            sum = mixed(sum, clock.code());
-        }
-        (sum >> 16) as u16
+        kinds::slot_of(self.valuation, self.clocks.map(|clock| clock.code()))
     }
 }

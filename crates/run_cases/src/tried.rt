@@ -34,8 +34,8 @@ pub(super) fn answer(
     Ok(check_run(&pack, question, start, parts, steps)?)
 }
 
-// The numbers between two commas. This loop is in each crate that reads numbers: they differ in signs
-// and in what they say is wrong, and a shared one, with a contract of words and decimals, is no plainer.
+// The numbers between two commas. This loop is in each crate that reads numbers: they differ in what
+// they say is wrong, and a shared one, with a contract of words and decimals, is no plainer.
 fn numbers_of<const N: usize>(rt: &impl Abort, part: &str) -> Result<[u32; N], Fail> {
     let mut numbers = [0; N];
     let words = part.split_ascii_whitespace();

@@ -1,10 +1,11 @@
 -- Four clocks as a list and as a function, and the next whole number of one.
-use Rattle.std.proofs.Common.{◌≡◌, ℕ, ◌+◌, ◌-◌, ◌*◌, ◌/◌, ◌%◌, ◌<◌, ◌≤◌, Bool, get_or, sym, refl, ap, ◌∙◌, mod-lt, mul_comm, add-mul, arith}
+use Rattle.std.proofs.Common.{◌≡◌, ℕ, ◌+◌, ◌-◌, ◌*◌, ◌/◌, ◌%◌, ◌<◌, ◌≤◌, Bool, get_or, sym, refl, ap, ◌∙◌, subst, ⊎_elim, min, mod-lt, mul_comm, add-mul, arith}
+use Rattle.std.proofs.Math.Nat.{min-le_left, min-le_right, eq-or-lt_of_le}
 use native.Mathlib.Nat.{div-add-mod}
 use Rattle.judging.specs.declared.sides.Side.{Side}
 use Rattle.judging.specs.Truth.{compared}
 use Rattle.runs.specs.Runs.{four_of}
-use Rattle.runs.specs.Instants.{sides_at, Depends, Always, Soon}
+use Rattle.runs.specs.Instants.{sides_at, Depends, Always, Soon, Every4}
 
 pub at-four : (f : ℕ → ℕ) (c : ℕ) → c < 4 → get_or (four_of f) c 0 ≡ f c
 at-four f ℕ.zero h = refl
@@ -35,3 +36,18 @@ to-next x D h =
 -- a shorter wait is as quiet
 pub sooner : (x D m t u : ℕ) → u ≤ t → Soon x D m t → Soon x D m u
 sooner x D m t u l s = record { passed = s.passed; low = s.low; high = λ h. omega (arith, s.high h) }
+
+-- what holds of each of four clocks holds of any one
+pub at4 : (P : ℕ → Type 0) → Every4 P → (c : ℕ) → c < 4 → P c
+at4 P e ℕ.zero h = e.0
+at4 P e (ℕ.suc ℕ.zero) h = e.1
+at4 P e (ℕ.suc (ℕ.suc ℕ.zero)) h = e.2
+at4 P e (ℕ.suc (ℕ.suc (ℕ.suc ℕ.zero))) h = e.3
+at4 P e (ℕ.suc (ℕ.suc (ℕ.suc (ℕ.suc c)))) h = absurd (omega arith)
+
+-- the least of some numbers, and of one more
+pub least-more : (f : ℕ → ℕ) (k t : ℕ) → ((i : ℕ) → i < k → t ≤ f i) → (i : ℕ) → i < k + 1 → min t (f k) ≤ f i
+least-more f k t h i l =
+    ⊎_elim (λ e. subst (λ j. min t (f k) ≤ f j) (sym e) (min-le_right t (f k)))
+    (λ g. let a : min t (f k) ≤ t = min-le_left t (f k) in let b : t ≤ f i = h i g in omega arith)
+    (eq-or-lt_of_le (omega arith))

@@ -9,6 +9,7 @@ use Rattle.model.specs.declared.layout.Model.{Model}
 use Rattle.model.specs.Reading.{layout}
 use Rattle.ceilings.specs.Ceilings.{ceiling_at, peak}
 use Rattle.runs.specs.declared.courses.Course.{Course}
+use Rattle.runs.specs.declared.moments.Moment.{Moment}
 use Rattle.runs.specs.Courses.{bytes_of, model_of, lasting_in}
 use Rattle.runs.specs.Runs.{four_of}
 use Rattle.tables.specs.Tables.{lasting}
@@ -28,6 +29,14 @@ depends bs m xs ms e few s t h =
 pub holds-by : (course : Course) (vs : List ℕ) → Depends (λ c. get_or course.setting.ceilings c 0) (lasting_in course vs)
 holds-by course vs =
     depends (bytes_of course) (model_of course) vs course.setting.ceilings course.setting.heights.answer (model_of course).sizes.few_clocks
+
+-- what is said of a moment of a course is said of the clocks at which it stands
+pub at-moment : (course : Course) (xs : List ℕ) (m : Moment) (P : (ℕ → ℕ → Side) → Bool) → m ≡ record { clocks = xs; unit = course.unit; some = course.some } → P (sides_at m.unit (λ c. get_or m.clocks c 0)) ≡ P (sides_at course.unit (λ c. get_or xs c 0))
+at-moment course xs m P e = ap (λ n. P (sides_at n.unit (λ c. get_or n.clocks c 0))) e
+
+-- and so is what is said of the wait from a moment
+pub wait-at : (course : Course) (xs ms : List ℕ) (m : Moment) (t : ℕ) → m ≡ record { clocks = xs; unit = course.unit; some = course.some } → Soonest m.unit m.clocks ms t → Soonest course.unit xs ms t
+wait-at course xs ms m t e s = subst (λ n. Soonest n.unit n.clocks ms t) e s
 
 -- where the variables have the values vs, its invariant holds throughout d parts from the clocks xs on
 abbrev pub Lasts : Course → List ℕ → List ℕ → ℕ → Type 0

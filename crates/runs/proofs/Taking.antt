@@ -14,6 +14,7 @@ use Rattle.kinds.specs.declared.steps.Step.{Step}
 use Rattle.tables.specs.Tables.{Table}
 use Rattle.runs.specs.Runs.{State, four_of, view, now, later, finer, moved, Elapses, Moves, OneStep, waits, moves}
 use Rattle.runs.specs.declared.courses.Course.{Course}
+use Rattle.runs.specs.declared.moments.Moment.{Moment}
 use Rattle.runs.specs.Courses.{bytes_of, model_of, table_of, lasting_in}
 use Rattle.runs.specs.Steps.{state_of, Next}
 use Rattle.tables.specs.Tables.{says_of}
@@ -94,6 +95,11 @@ module _ (course : Course) (v : ℕ) (xs : List ℕ) where
 
   pub from-run : (d : ℕ) → ((n e : ℕ) → 1 ≤ n → 0 < e → e ≤ n * d → (table_of course).invariant (moment n e) ≡ true) → Lasts course (valued course v) xs d
   from-run d a n e g h l = sym (same n e) ∙ a n e g h l
+
+-- the clocks after a discrete step from a moment of a course
+pub cleared-at : (course : Course) (xs olds news : List ℕ) (m : Moment) → m ≡ record { clocks = xs; unit = course.unit; some = course.some } → four_of (λ k. cond (says_of (bytes_of course) (model_of course) (Reset k) (seen olds news (sides_at m.unit (λ c. get_or m.clocks c 0)))) 0 (get_or m.clocks k 0)) ≡ four_of (λ k. cond (says_of (bytes_of course) (model_of course) (Reset k) (seen olds news (sides_at course.unit (λ c. get_or xs c 0)))) 0 (get_or xs k 0))
+cleared-at course xs olds news m e =
+    ap (λ n. four_of (λ k. cond (says_of (bytes_of course) (model_of course) (Reset k) (seen olds news (sides_at n.unit (λ c. get_or n.clocks c 0)))) 0 (get_or n.clocks k 0))) e
 
 -- what is judged in a discrete step, as the definition of runs says it
 module _ (course : Course) (v w : ℕ) (xs olds news : List ℕ) (o : olds ≡ valued course v) (n : news ≡ valued course w) where

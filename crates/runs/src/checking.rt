@@ -11,7 +11,6 @@ ghost use Rattle.tables.specs.Tables.{asked};
 ghost use Rattle.valuations.specs.Radix.{padded};
 
 use super::courses::Course;
-use super::moments::Moment;
 use super::reached::Reached;
 use instruction::Fault;
 use judging::{Seen, judge};
@@ -47,6 +46,8 @@ fn check_steps(steps: &[Step], valuations: u16) -> Result<(), Fault>
     Ok(())
 }
 
+// Whether a run's numbers are in range. They come apart, as in the one public call that begins with this: a
+// struct of them would be made there only to be taken apart.
 fn are_numbered(valuations: u16, start: u32, parts: u32, steps: &[Step]) -> bool
     ensures { result ≡ numbered valuations start parts steps.now }
 {
@@ -63,11 +64,9 @@ impl Course<'_> {
         ensures { Tells result (Begins (table_of self.now) self.now.unit start) }
     {
         let values = values(&self.setting.pack.model.sizes, start);
-        let moment = Moment {
-            clocks: [0; 4],
-            unit: self.unit,
-        };
+        let moment = self.moment([0; 4]);
         let pack = self.setting.pack;
+        // one `&&` over a moment of its own make: a function for it would be no plainer
         holds(&pack, Role::Start, &values, &moment)
             && holds(&pack, Role::Invariant, &values, &moment)
     }
@@ -93,9 +92,7 @@ impl Course<'_> {
     {
         let sizes = &self.setting.pack.model.sizes;
         let values = values(sizes, at.valuation);
-        let clocks = at.clocks;
-        let unit = self.unit;
-        let moment = Moment { clocks, unit };
+        let moment = self.moment(at.clocks);
         let shown = Seen {
             reading: &moment,
             values: &values,

@@ -32,22 +32,16 @@ impl Course<'_> {
             if !valid(&pack, values, &after) {
                 return false;
             }
-            let now = Moment {
-                clocks,
-                unit: self.unit,
-            };
-            let wait = soonest(&now, self.setting.ceilings);
+            let wait = soonest(&self.moment(clocks), self.setting.ceilings);
             if wait > delay {
                 return true;
             }
-            let met = Moment {
-                clocks: grown(clocks, wait),
-                unit: self.unit,
-            };
+            let then = grown(clocks, wait);
+            let met = self.moment(then);
             if !valid(&pack, values, &met) {
                 return false;
             }
-            clocks = met.clocks;
+            clocks = then;
             delay -= wait;
         }
         true

@@ -37,17 +37,15 @@ impl Course<'_> {
             return None;
         }
         let values = values(&self.setting.pack.model.sizes, at.valuation);
-        let clocks = at.clocks;
-        let unit = self.unit;
-        let moment = Moment { clocks, unit };
+        let moment = self.moment(at.clocks);
         if holds(&self.setting.pack, Role::Urgent, &values, &moment) {
             return None;
         }
         let delay = step.delay as u64;
-        if !self.lasts(&values, clocks, delay) {
+        if !self.lasts(&values, at.clocks, delay) {
             return None;
         }
-        let clocks = grown(clocks, delay);
+        let clocks = grown(at.clocks, delay);
         Some(Reached { clocks, ..at })
     }
 
@@ -62,9 +60,7 @@ impl Course<'_> {
         let valuation = step.valuation as u16;
         let old = values(&pack.model.sizes, at.valuation);
         let new = values(&pack.model.sizes, valuation);
-        let clocks = at.clocks;
-        let unit = self.unit;
-        let moment = Moment { clocks, unit };
+        let moment = self.moment(at.clocks);
         let shown = Seen {
             reading: &moment,
             values: &old,
@@ -74,7 +70,7 @@ impl Course<'_> {
             return None;
         }
         let clocks = reset_clocks(&pack, &shown);
-        if !valid(&pack, &new, &Moment { clocks, unit }) {
+        if !valid(&pack, &new, &self.moment(clocks)) {
             return None;
         }
         Some(Reached { valuation, clocks })

@@ -36,9 +36,11 @@ fn next_wholes(moment: &Moment, ceilings: [u16; 4]) -> [u64; 4]
 pub(super) fn soonest(moment: &Moment, ceilings: [u16; 4]) -> u64
     ensures { Soonest moment.now.unit moment.now.clocks ceilings result }
 {
-    // four by name: the proof of an iterator's `min` over them was tried and did not close
-    let [a, b, c, d] = next_wholes(moment, ceilings);
-    a.min(b).min(c.min(d))
+    let mut least = u64::MAX;
+    'waits: for wait in next_wholes(moment, ceilings) {
+        least = least.min(wait);
+    }
+    least
 }
 
 // All clocks `by` parts later.
@@ -46,6 +48,7 @@ pub(super) fn grown(clocks: [u64; 4], by: u64) -> [u64; 4]
     requires { Room by clocks }
     ensures { result ≡ four_of (λ c. slice_index clocks c + by) }
 {
+    // `map` was tried: the proof that each sum fits did not close
     array::from_fn(|c| clocks[c] + by)
 }
 
@@ -54,5 +57,6 @@ pub(super) fn just_after(clocks: [u64; 4]) -> [u64; 4]
     requires { Room 0 clocks }
     ensures { result ≡ four_of (λ c. 2 * slice_index clocks c + 1) }
 {
+    // `map` was tried: the proof that each number fits did not close
     array::from_fn(|c| 2 * clocks[c] + 1)
 }

@@ -82,6 +82,7 @@ pub fn read_sizes(bytes: &[u8]) -> Result<Sizes, Fault>
 {
     let listed = read_counts(bytes)?;
     let clocks = read_clock_count(&bytes[listed.len() + 1..], bytes.len())?;
+    // eight places and how many are used: there is no heap
     let mut counts = [0u8; 8];
     counts[..listed.len()].copy_from_slice(listed);
     Ok(Sizes {

@@ -18,7 +18,8 @@ pub struct Ticked<'a> {
 }
 
 impl<'a> Ticked<'a> {
-    // Ticked time over a model and the bytes it was read from.
+    // Ticked time over a model and the bytes it was read from. A setting has its own ceilings; here they are
+    // promised of the caller's record.
     pub fn of(pack: &Pack<'a>) -> Ticked<'a>
         ensures bytes { result.setting.pack.bytes.now ≡ pack.now.bytes.now }
         ensures model { result.setting.pack.model.now ≡ pack.now.model.now }
@@ -31,6 +32,8 @@ impl<'a> Ticked<'a> {
     }
 }
 
+// Written out for each kind, by `starts` and `moves` where they are alike: one for every kind of trials would
+// implement another crate's trait for a type parameter, which Rust does not allow.
 impl<'a> Time for Ticked<'a> {
     ghost use Rattle.ticked.specs.Laws.{lawful_in};
 

@@ -1,9 +1,6 @@
 // Places of ticked time.
 ghost use Rattle.std.specs.Prelude.{◌≡◌};
-ghost use Rattle.kinds.specs.Slots.{mixing};
-ghost use Rattle.ticked.specs.Ticks.{at, code, same_place, slot_of};
-
-use kinds::mixed;
+ghost use Rattle.ticked.specs.Ticks.{code, same_place, slot_of};
 
 // A clock: a whole number up to its ceiling, or over. No Option: a clock that is over has a number,
 // above its ceiling, and reads as above each constant up to it. None would say that it has none.
@@ -40,21 +37,9 @@ pub(super) fn same_places(place: Place, other: Place) -> bool
     place == other
 }
 
-// The clocks' parts, mixed one after the other into a sum.
-fn mixed_clocks(begun: u32, clocks: [Ticks; 4]) -> u32
-    ensures { result ≡ mixing (mixing (mixing (mixing begun (code (at clocks 0))) (code (at clocks 1))) (code (at clocks 2))) (code (at clocks 3)) }
-{
-    let mut sum = begun;
-    'clocks: for clock in clocks {
-        sum = mixed(sum, clock.code());
-    }
-    sum
-}
-
-// The upper half of what the parts are mixed into.
+// A number by which a table of places spreads them.
 pub(super) fn slot_of(place: Place) -> u16
     ensures { result ≡ slot_of place }
 {
-    let sum = mixed(0, place.valuation as u32);
-    (mixed_clocks(sum, place.clocks) >> 16) as u16
+    kinds::slot_of(place.valuation, place.clocks.map(|clock| clock.code()))
 }

@@ -1,9 +1,11 @@
-// The reading of a ticked place, at a whole moment or half a unit later.
+// The reading of a ticked place, at a whole moment or half a unit later. A clock that the place has not
+// counts as over.
 ghost use Rattle.std.specs.Prelude.{◌≡◌, false};
 ghost use Rattle.ticked.specs.Ticks.{at, side_of};
 
 use super::places::{Place, Ticks};
 use judging::{Reading, Side};
+use kinds::clock_or;
 use std::cmp::Ordering;
 
 // The clocks of a place, and whether half a unit has passed since.
@@ -13,15 +15,9 @@ pub struct Moment {
     pub half: bool,
 }
 
-// A clock that the place has not counts as over.
-fn clock_of(clocks: [Ticks; 4], clock: u8) -> Ticks
-    ensures { result ≡ at clocks clock }
-{
-    clocks.get(clock as usize).copied().unwrap_or(Ticks::Over)
-}
-
 impl Ticks {
-    // Where it stands to a constant, or its number and a half.
+    // Where it stands to a constant, or its number and a half. Dense time has a function like it: each
+    // reads its own clock, and `cmp` is what they share.
     fn side(self, half: bool, constant: u16) -> Side
         ensures { result ≡ side_of half self constant }
     {
@@ -45,7 +41,7 @@ impl Reading for Place {
     ghost side = { λ p c j. side_of false (at p.clocks c) j };
 
     fn side_of(&self, clock: u8, constant: u16) -> Side {
-        clock_of(self.clocks, clock).side(false, constant)
+        clock_or(self.clocks, clock, Ticks::Over).side(false, constant)
     }
 
     ghost ordered = { place_ordered };
@@ -57,7 +53,7 @@ impl Reading for Moment {
     ghost side = { λ s c j. side_of s.half (at s.clocks c) j };
 
     fn side_of(&self, clock: u8, constant: u16) -> Side {
-        clock_of(self.clocks, clock).side(self.half, constant)
+        clock_or(self.clocks, clock, Ticks::Over).side(self.half, constant)
     }
 
     ghost ordered = { moment_ordered };

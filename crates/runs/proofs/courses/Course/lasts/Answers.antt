@@ -1,5 +1,6 @@
 use Rattle.std.proofs.Common.{◌≡◌, ◌+◌, ◌≤◌, length, get_or, sym, ap, ◌∙◌, arith}
-use Rattle.runs.proofs.Lasting.{not_after, to_the_end, not-met, goes_on, comes_back, ended}
+use Rattle.runs.specs.Courses.{lasting_in}
+use Rattle.runs.proofs.Lasting.{at-moment, wait-at, not_after, to_the_end, not-met, goes_on, comes_back, ended}
 use Rattle.runs.proofs.courses.Course.lasts.Goals as goal
 
 pub returns-then-not-valid : goal.returns-then-not-valid
@@ -10,12 +11,12 @@ returns-then-not-valid c =
 pub returns-then-wait-delay : goal.returns-then-wait-delay
 returns-then-wait-delay c =
     to_the_end c.args.self.now c.args.values.now c.events.clocks c.events.delay c.soonest-wait.result c.just_after.result
-    c.events-test.true c.if-wait-delay.true c.soonest-wait.ensures c.just_after.ensures (sym c.if-not-valid.false ∙ c.valid.ensures) c.events.invariant.2
+    c.events-test.true c.if-wait-delay.true (wait-at c.args.self.now c.events.clocks _ _ _ c.moment.ensures c.soonest-wait.ensures) c.just_after.ensures (sym c.if-not-valid.false ∙ c.valid.ensures) c.events.invariant.2
 
 pub returns-then-not-valid-2 : goal.returns-then-not-valid-2
 returns-then-not-valid-2 c =
-    not-met c.args.self.now c.args.values.now c.events.clocks c.events.delay c.soonest-wait.result c.grown.result
-    c.soonest-wait.ensures.some c.if-wait-delay.false c.grown.ensures (sym c.if-not-valid-2.true ∙ c.valid-in-events.ensures) c.events.invariant.3
+    not-met c.args.self.now c.args.values.now c.events.clocks c.events.delay c.soonest-wait.result c.grown-then.result
+    c.soonest-wait.ensures.some c.if-wait-delay.false c.grown-then.ensures (sym c.if-not-valid-2.true ∙ c.valid-in-events.ensures ∙ at-moment c.args.self.now c.grown-then.result _ (lasting_in c.args.self.now c.args.values.now) c.moment-met.ensures) c.events.invariant.3
 
 pub events-preserved : goal.events-preserved
 events-preserved c =
@@ -23,16 +24,16 @@ events-preserved c =
     let vs = c.args.values.now in
     let xs = c.events.clocks in
     let less : c.soonest-wait.result ≤ c.events.delay = c.if-wait-delay.false in
-    let size : length c.grown.result ≡ 4 = ap length c.grown.ensures in
-    let g0 : get_or c.grown.result 0 0 ≡ get_or xs 0 0 + c.soonest-wait.result = ap (λ y. get_or y 0 0) c.grown.ensures in
-    let g1 : get_or c.grown.result 1 0 ≡ get_or xs 1 0 + c.soonest-wait.result = ap (λ y. get_or y 1 0) c.grown.ensures in
-    let g2 : get_or c.grown.result 2 0 ≡ get_or xs 2 0 + c.soonest-wait.result = ap (λ y. get_or y 2 0) c.grown.ensures in
-    let g3 : get_or c.grown.result 3 0 ≡ get_or xs 3 0 + c.soonest-wait.result = ap (λ y. get_or y 3 0) c.grown.ensures in (
+    let size : length c.grown-then.result ≡ 4 = ap length c.grown-then.ensures in
+    let g0 : get_or c.grown-then.result 0 0 ≡ get_or xs 0 0 + c.soonest-wait.result = ap (λ y. get_or y 0 0) c.grown-then.ensures in
+    let g1 : get_or c.grown-then.result 1 0 ≡ get_or xs 1 0 + c.soonest-wait.result = ap (λ y. get_or y 1 0) c.grown-then.ensures in
+    let g2 : get_or c.grown-then.result 2 0 ≡ get_or xs 2 0 + c.soonest-wait.result = ap (λ y. get_or y 2 0) c.grown-then.ensures in
+    let g3 : get_or c.grown-then.result 3 0 ≡ get_or xs 3 0 + c.soonest-wait.result = ap (λ y. get_or y 3 0) c.grown-then.ensures in (
       size,
       (omega (arith, c.events.invariant.1), omega (arith, c.events.invariant.1), omega (arith, c.events.invariant.1), omega (arith, c.events.invariant.1)),
-      goes_on course vs xs c.events.delay c.soonest-wait.result c.just_after.result c.grown.result less c.soonest-wait.ensures
-          c.just_after.ensures (sym c.if-not-valid.false ∙ c.valid.ensures) c.grown.ensures (sym c.if-not-valid-2.false ∙ c.valid-in-events.ensures) c.events.invariant.2,
-      comes_back course vs xs c.events.delay c.soonest-wait.result c.grown.result less c.grown.ensures c.events.invariant.3,
+      goes_on course vs xs c.events.delay c.soonest-wait.result c.just_after.result c.grown-then.result less (wait-at course xs _ _ _ c.moment.ensures c.soonest-wait.ensures)
+          c.just_after.ensures (sym c.if-not-valid.false ∙ c.valid.ensures) c.grown-then.ensures (sym c.if-not-valid-2.false ∙ c.valid-in-events.ensures ∙ at-moment course c.grown-then.result _ (lasting_in course vs) c.moment-met.ensures) c.events.invariant.2,
+      comes_back course vs xs c.events.delay c.soonest-wait.result c.grown-then.result less c.grown-then.ensures c.events.invariant.3,
     )
 
 pub returns : goal.returns
