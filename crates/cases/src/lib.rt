@@ -1,4 +1,5 @@
-// What the readers of records and questions answer, as tables of bytes and answers.
+// What the readers of records and questions answer, as tables of bytes and answers, and how much room a place
+// takes.
 //
 // The rows are worked out by hand from the record format. The module `tried` puts bytes to a
 // reader; the other modules hold the tables by subject.
@@ -12,6 +13,8 @@ mod limits;
 mod numbers;
 #[cfg(test)]
 mod parts;
+#[cfg(test)]
+mod places;
 #[cfg(test)]
 mod records;
 #[cfg(test)]
