@@ -1,12 +1,17 @@
 // Bytes as words with single blanks between them.
 //
 // `76` is a byte in two hex digits, `74*2000` the same byte 2,000 times, `'tt&` the characters behind
-// the quote, and `-` no byte. A number that does not fit is none, so that the case cannot be read.
+// the quote, and `-` no byte.
+use super::digits::number_of;
 use super::failures::Failure;
 use std::alloc::Global;
 
 // The other program has the same of a character, with an error that names it; neither line is plainer shared.
+// Hex digits are small letters.
 fn digit_of(c: u8) -> Result<u8, Failure> {
+    if let b'A'..=b'F' = c {
+        return Err(Failure::NoCase);
+    }
     match (c as char).to_digit(16) {
         Some(digit) => Ok(digit as u8),
         None => Err(Failure::NoCase),
@@ -23,7 +28,7 @@ fn byte_of(digits: &str) -> Result<u8, Failure> {
 // Adds a byte, and how often it comes is told behind a star.
 fn add_repeated(bytes: &mut Vec<u8>, word: &str) -> Result<(), Failure> {
     let (digits, times) = word.split_once('*').unwrap_or((word, "1"));
-    let times = times.parse::<usize>()?;
+    let times = number_of(times)? as usize;
     bytes.resize(bytes.len().saturating_add(times), byte_of(digits)?)?;
     Ok(())
 }

@@ -10,6 +10,7 @@ mod answers;
 mod asking;
 mod bytes;
 mod cases;
+mod digits;
 mod failures;
 mod steps;
 mod timing;

@@ -1,7 +1,7 @@
 // Steps of a run as text: `KIND VALUATION DELAY` for each, with `, ` between them.
 //
-// `0 0 1*2000` stands for 2,000 such steps. A number that does not fit is none, so that the case
-// cannot be read.
+// `0 0 1*2000` stands for 2,000 such steps.
+use super::digits::number_of;
 use super::failures::Failure;
 use instruction::Fault;
 use kinds::Step;
@@ -31,16 +31,16 @@ impl Run {
     }
 }
 
-// The numbers of a text that has just so many words. This loop is in each crate that reads numbers:
-// they differ in what they say is wrong, and a shared one, with a contract of words and decimals, is no
-// plainer.
+// The numbers of a text that has just so many, with single blanks between them. A loop like it is in each
+// crate that reads numbers: they differ in what words and numbers are and in what they say is wrong, and a
+// shared one, with a contract of words and decimals, is no plainer.
 fn numbers_of<const N: usize>(text: &str) -> Result<[u32; N], Failure> {
     let mut numbers = [0; N];
-    let words = text.split_ascii_whitespace();
+    let words = text.trim_start_matches(' ').split(' ');
     for (number, word) in numbers.iter_mut().zip(words) {
-        *number = word.parse::<u32>()?;
+        *number = number_of(word)?;
     }
-    if text.split_ascii_whitespace().count() != N {
+    if text.trim_start_matches(' ').split(' ').count() != N {
         return Err(Failure::NoCase);
     }
     Ok(numbers)
@@ -59,18 +59,20 @@ fn step_of(text: &str) -> Result<Step, Failure> {
 // Adds a step, and how often it comes is told behind a star.
 fn add_steps(steps: &mut Vec<Step>, text: &str) -> Result<(), Failure> {
     let (step, times) = text.split_once('*').unwrap_or((text, "1"));
-    let times = times.parse::<usize>()?;
+    let times = number_of(times)? as usize;
     steps.resize(steps.len().saturating_add(times), step_of(step)?)?;
     Ok(())
 }
 
-// The run of a text.
+// The run of a text. Behind its first comma there may be nothing.
 pub(super) fn run_of(heap: Global, text: &str) -> Result<Run, Failure> {
-    let mut texts = text.split(',');
-    let [start, parts] = numbers_of::<2>(texts.next().unwrap_or(""))?;
+    let (first, rest) = text.split_once(',').unwrap_or((text, ""));
+    let [start, parts] = numbers_of::<2>(first)?;
     let mut steps = Vec::new(heap);
-    for text in texts {
-        add_steps(&mut steps, text)?;
+    if !rest.is_empty() {
+        for text in rest.split(',') {
+            add_steps(&mut steps, text)?;
+        }
     }
     Ok(Run {
         start,
