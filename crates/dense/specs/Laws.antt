@@ -27,7 +27,7 @@ module _ (K : Setting) where
   timed : (i : ℕ) (is : List ℕ) → Timed (dense K) i is
   timed i is = record { some = parts-some (starting K) (stepping K) i is; few = parts-few (starting K) (stepping K) i is; each = delays-each (starting K) (stepping K) i is }
 
-  lawful : 1 ≤ product K.table.counts → product K.table.counts ≤ 1024 → Lawful (dense K)
+  pub lawful : 1 ≤ product K.table.counts → product K.table.counts ≤ 1024 → Lawful (dense K)
   lawful some few =
       lawful_by (dense K) same-is same-itself some few refl started stays_within timed
 

@@ -59,7 +59,7 @@ to-four g f same n h p = steps (4 - n) n (omega arith) p
     steps (suc d) k e p = steps d (suc k) (omega arith) (λ c i. p c (omega arith)) ∙ same k (p k (omega arith))
 
 -- of n clocks, four of which the last are over tell the same
-fewer : (n : ℕ) (M : ℕ → ℕ) (f : ℕ → Clock) → n ≤ 4 → Padded n f → (c : ℕ) → after 4 M f c ≡ after n M f c
+pub fewer : (n : ℕ) (M : ℕ → ℕ) (f : ℕ → Clock) → n ≤ 4 → Padded n f → (c : ℕ) → after 4 M f c ≡ after n M f c
 fewer n M f h p c = to-four (λ k. after k M f c) f (λ k o. after_less k f o M c) n h p
 
 over-stays : (n : ℕ) (M : ℕ → ℕ) (f : ℕ → Clock) (c : ℕ) → f c ≡ Over → after n M f c ≡ Over

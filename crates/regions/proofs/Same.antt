@@ -7,14 +7,14 @@ use Rattle.regions.specs.declared.clocks.Clock.TheVariants.{Over, Counted}
 use Rattle.regions.specs.declared.places.Place.{Place}
 use Rattle.regions.specs.Sameness.{same_clock, same_clocks, same_place}
 
-clock-is : (p q : Clock) → same_clock p q ≡ true → p ≡ q
+pub clock-is : (p q : Clock) → same_clock p q ≡ true → p ≡ q
 clock-is Over Over e = refl
 clock-is Over (Counted v s) e = absurd (false≢true e)
 clock-is (Counted w r) Over e = absurd (false≢true e)
 clock-is (Counted w r) (Counted v s) e =
     let b = and_parts (eqb w v) (eqb r s) e in ap₂ Counted (eqb-true w v b.0) (eqb-true r s b.1)
 
-clock-itself : (p : Clock) → same_clock p p ≡ true
+pub clock-itself : (p : Clock) → same_clock p p ≡ true
 clock-itself Over = refl
 clock-itself (Counted w r) = and_from (eqb w w) (eqb r r) (eq-eqb w w refl) (eq-eqb r r refl)
 

@@ -77,27 +77,27 @@ module _ (course : Course) (question : List ℕ) where
   only (moves k v e) (waits i w f) = absurd (omega arith)
   only (moves k v e) (moves i w f) = refl
 
-  leads-on : (s t : State) (p : Step) (rest : List Step) → OneStep T D s p t → Leads T q D t rest → Leads T q D s (p ∷ rest)
+  pub leads-on : (s t : State) (p : Step) (rest : List Step) → OneStep T D s p t → Leads T q D t rest → Leads T q D s (p ∷ rest)
   leads-on s t p rest o l = record { last = l.last; run = on p o l.run; asked = l.asked }
 
   cut : {s u : State} {p : Step} {rest : List Step} → Run T D s (p ∷ rest) u → (t : State) × OneStep T D s p t × Run T D t rest u
   cut (on p o r) = (_, o, r)
 
-  leads-back : (s t : State) (p : Step) (rest : List Step) → OneStep T D s p t → Leads T q D s (p ∷ rest) → Leads T q D t rest
+  pub leads-back : (s t : State) (p : Step) (rest : List Step) → OneStep T D s p t → Leads T q D s (p ∷ rest) → Leads T q D t rest
   leads-back s t p rest o l =
       let x = cut l.run in
       record { last = l.last; run = subst (λ y. Run T D y rest l.last) (only x.1 o) x.2; asked = l.asked }
 
-  leads-nowhere : (s : State) (p : Step) (rest : List Step) → ((t : State) → OneStep T D s p t → ⊥) → Leads T q D s (p ∷ rest) → ⊥
+  pub leads-nowhere : (s : State) (p : Step) (rest : List Step) → ((t : State) → OneStep T D s p t → ⊥) → Leads T q D s (p ∷ rest) → ⊥
   leads-nowhere s p rest h l = let x = cut l.run in h x.0 x.1
 
   ends : {s u : State} → Run T D s [] u → s ≡ u
   ends stop = refl
 
-  leads-here : (s : State) → q (now T D s) ≡ true → Leads T q D s []
+  pub leads-here : (s : State) → q (now T D s) ≡ true → Leads T q D s []
   leads-here s e = record { last = s; run = stop; asked = e }
 
-  led-here : (s : State) → Leads T q D s [] → q (now T D s) ≡ true
+  pub led-here : (s : State) → Leads T q D s [] → q (now T D s) ≡ true
   led-here s l = subst (λ y. q (now T D y) ≡ true) (sym (ends l.run)) l.asked
 
   -- the same as the loop goes

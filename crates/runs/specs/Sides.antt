@@ -4,7 +4,7 @@ use Rattle.std.proofs.lemmas.Bool.Decides.{nat_tests}
 use Rattle.judging.specs.Truth.{compared, Ordered}
 use Rattle.runs.specs.declared.moments.Moment.{Moment}
 
-ordered : (D : ℕ) (x : ℕ → ℕ) → 1 ≤ D → Ordered (λ c j. compared (x c) (j * D))
+pub ordered : (D : ℕ) (x : ℕ → ℕ) → 1 ≤ D → Ordered (λ c j. compared (x c) (j * D))
 ordered D x h =
     record {
       below = λ c j k e l. let m : j * D ≤ k * D = mul-le-mul_right D l in grind (arith, nat_tests);

@@ -1,16 +1,18 @@
 // The run check.
 ghost use Rattle.std.specs.Prelude.{◌≡◌, ◌<◌, ◌≤◌, true, length, slice_index};
 ghost use Rattle.instruction.specs.Counts.{value_counts};
+ghost use Rattle.instruction.specs.Sizes.{product};
 ghost use Rattle.judging.specs.Judging.{seen};
 ghost use Rattle.runs.specs.Checks.{Checks, fine, numbered, stepping};
 ghost use Rattle.runs.specs.Courses.{model_of, size_of, table_of};
 ghost use Rattle.runs.specs.Instants.{Room, Tells, sides_at};
 ghost use Rattle.runs.specs.Runs.{Begins, Leads, first};
 ghost use Rattle.runs.specs.Steps.{Next, state_of};
-ghost use Rattle.tables.specs.Tables.{asked};
+ghost use Rattle.tables.specs.Tables.{asked, table_in};
 ghost use Rattle.valuations.specs.Radix.{padded};
 
 use super::courses::Course;
+use super::moments::Moment;
 use super::reached::Reached;
 use instruction::Fault;
 use judging::{Seen, judge};
@@ -57,20 +59,23 @@ fn are_numbered(valuations: u16, start: u32, parts: u32, steps: &[Step]) -> bool
         && steps.len() <= MOST_RECORDS
 }
 
-impl Course<'_> {
-    // Whether a run begins in a valuation, all clocks at 0.
-    fn begins(&self, start: u16) -> bool
-        requires { start < size_of self.now }
-        ensures { Tells result (Begins (table_of self.now) self.now.unit start) }
-    {
-        let values = values(&self.setting.pack.model.sizes, start);
-        let moment = self.moment([0; 4]);
-        let pack = self.setting.pack;
-        // one `&&` over a moment of its own make: a function for it would be no plainer
-        holds(&pack, Role::Start, &values, &moment)
-            && holds(&pack, Role::Invariant, &values, &moment)
-    }
+// Whether a run begins in a valuation, all clocks at 0. It asks for no ceiling: where no run begins none is
+// looked for.
+fn begins(pack: &Pack<'_>, start: u16, unit: u32) -> bool
+    requires some { 1 ≤ unit }
+    requires within { start < product (value_counts pack.now.model.now.sizes) }
+    ensures { Tells result (Begins (table_in pack.now.bytes.now pack.now.model.now) unit start) }
+{
+    let values = values(&pack.model.sizes, start);
+    let moment = Moment {
+        clocks: [0; 4],
+        unit,
+    };
+    // one `&&` over a moment of its own make: a function for it would be no plainer
+    holds(pack, Role::Start, &values, &moment) && holds(pack, Role::Invariant, &values, &moment)
+}
 
+impl Course<'_> {
     fn next_state(&self, at: Reached, step: Step) -> Option<Reached>
         requires room { Room 4294967296 at.clocks }
         requires fine { fine (size_of self.now) step ≡ true }
@@ -138,12 +143,12 @@ pub fn check_run(
         return Err(Fault::RunNumbers(0));
     }
     check_steps(steps, valuations)?;
+    if !begins(pack, start as u16, parts) {
+        return Ok(false);
+    }
     let course = Course {
         setting: Setting::of(pack),
         unit: parts,
     };
-    if !course.begins(start as u16) {
-        return Ok(false);
-    }
     Ok(course.follows(question, start as u16, steps))
 }

@@ -31,7 +31,11 @@ impl<'a> Setting<'a> {
     pub fn values(&self, valuation: u16) -> Option<[u8; 8]>
         ensures { result ≡ cond (nat_lt valuation (product (made self.now).table.counts)) (Some (padded (made self.now).table.counts valuation)) None }
     {
-        let values = values(&self.pack.model.sizes, valuation);
-        (valuation < self.valuations()).then_some(values)
+        // by `if`: `then_some` would work the values out of a number that is none too
+        if valuation < self.valuations() {
+            Some(values(&self.pack.model.sizes, valuation))
+        } else {
+            None
+        }
     }
 }

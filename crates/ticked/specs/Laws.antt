@@ -23,13 +23,13 @@ use Rattle.ticked.specs.Ticks.{at, side_of, same_ticks, same_clocks, same_place}
 use Rattle.ticked.specs.Trials.{units_of, origin, elapsed, moved, values, starting, stepping, ticked}
 
 -- Places that are the same are equal.
-ticks-is : (x y : Ticks) → same_ticks x y ≡ true → x ≡ y
+pub ticks-is : (x y : Ticks) → same_ticks x y ≡ true → x ≡ y
 ticks-is Over Over h = refl
 ticks-is Over (At v) h = absurd (false≢true h)
 ticks-is (At w) Over h = absurd (false≢true h)
 ticks-is (At w) (At v) h = ap At (eqb-true w v h)
 
-ticks-itself : (x : Ticks) → same_ticks x x ≡ true
+pub ticks-itself : (x : Ticks) → same_ticks x x ≡ true
 ticks-itself Over = refl
 ticks-itself (At w) = eq-eqb w w refl
 
@@ -37,14 +37,14 @@ pub paired : Pairs Ticks same_ticks same_clocks
 unfolding same_clocks
 paired = record { none = refl; left = λ y ys. refl; right = λ x xs. refl; both = λ x y xs ys. refl }
 
-same-is : (p q : Place) → same_place p q ≡ true → p ≡ q
+pub same-is : (p q : Place) → same_place p q ≡ true → p ≡ q
 same-is p q h =
     let b = and_parts (eqb p.valuation q.valuation) (same_clocks p.clocks q.clocks) h in
     let e : p.valuation ≡ q.valuation = eqb-true p.valuation q.valuation b.0 in
     let f : p.clocks ≡ q.clocks = all-is paired ticks-is p.clocks q.clocks b.1 in
     λ i. record { valuation = e i; clocks = f i }
 
-same-itself : (p : Place) → same_place p p ≡ true
+pub same-itself : (p : Place) → same_place p p ≡ true
 same-itself p =
     and_from (eqb p.valuation p.valuation) (same_clocks p.clocks p.clocks) (eq-eqb p.valuation p.valuation refl) (all-itself paired ticks-itself p.clocks)
 
@@ -63,7 +63,7 @@ module _ (K : Setting) where
   timed : (i : ℕ) (is : List ℕ) → Timed (ticked K) i is
   timed i is = timed-whole (ticked K) i is refl (length-map is units_of)
 
-  lawful : 1 ≤ product K.table.counts → product K.table.counts ≤ 1024 → Lawful (ticked K)
+  pub lawful : 1 ≤ product K.table.counts → product K.table.counts ≤ 1024 → Lawful (ticked K)
   lawful some few =
       lawful_by (ticked K) same-is same-itself some few refl started stays_within timed
 

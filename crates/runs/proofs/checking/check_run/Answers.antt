@@ -1,8 +1,8 @@
-use Rattle.std.proofs.Common.{true, false, subst}
+use Rattle.std.proofs.Common.{subst}
 use Rattle.std.proofs.lemmas.Result.{err_from_is_err_and}
 use Rattle.tables.specs.Tables.{table_in, asked}
 use Rattle.runs.specs.Instants.{Tells}
-use Rattle.runs.specs.Runs.{Begins, Leads, first}
+use Rattle.runs.specs.Runs.{Leads, first}
 use Rattle.runs.proofs.Checked.{bad-question, bad-numbers, bad-steps, no_start, led}
 use Rattle.runs.proofs.checking.check_run.Goals as goal
 
@@ -23,10 +23,10 @@ returns-in_err-check_steps c =
 pub returns-then-not-begins : goal.returns-then-not-begins
 returns-then-not-begins c =
     no_start c.in_ok-read_question.ensures.answer c.valuations-valuations.ensures c.if-not-are_numbered.ensures c.in_ok-check_steps.ensures
-    (subst (λ p. Tells false (Begins (table_in p.bytes.now p.model.now) c.args.parts c.args.start)) c.of.ensures c.if-not-begins.ensures)
+    c.if-not-begins.ensures
 
 pub returns : goal.returns
 returns c =
     led c.in_ok-read_question.ensures.answer c.valuations-valuations.ensures c.if-not-are_numbered.ensures c.in_ok-check_steps.ensures
-    (subst (λ p. Tells true (Begins (table_in p.bytes.now p.model.now) c.args.parts c.args.start)) c.of.ensures c.if-not-begins.ensures)
+    c.if-not-begins.ensures
     (subst (λ p. Tells c.follows.result (Leads (table_in p.bytes.now p.model.now) (asked c.args.question.now p.model.now) c.args.parts (first c.args.start) c.args.steps.now)) c.of.ensures c.follows.ensures)
