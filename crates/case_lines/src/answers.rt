@@ -1,6 +1,8 @@
 // Answers as text, their words apart by single blanks.
-use super::failures::Failure;
-use std::alloc::{AllocError, Global};
+//
+// Where no memory is left an answer stays too short, and so differs from the expected one.
+use instruction::Refusal;
+use std::alloc::Global;
 use std::fmt;
 use std::fmt::Write;
 
@@ -17,16 +19,33 @@ impl Answer {
         }
     }
 
+    // Adds a text right behind what is said.
+    pub(super) fn add<D: fmt::Display + Drop>(&mut self, text: D) {
+        let _ = write!(self.text, "{text}");
+    }
+
     // Adds a word.
-    pub(super) fn say<D: fmt::Display + Drop>(&mut self, word: D) -> Result<(), AllocError> {
-        if !self.text.is_empty() {
-            self.text.push(' ')?;
+    pub(super) fn say<D: fmt::Display + Drop>(&mut self, word: D) {
+        if !self.is_empty() {
+            self.add(" ");
         }
-        write!(self.text, "{word}")
+        self.add(word);
+    }
+
+    // Adds a refusal right behind what is said.
+    pub(super) fn refuse(&mut self, refusal: Refusal) {
+        self.add("refused");
+        self.say(refusal.number);
+        self.say(refusal.section);
+        self.say(refusal.position);
     }
 
     pub(super) fn is(&self, text: &str) -> bool {
         self.text.as_str() == text
+    }
+
+    pub(super) fn is_empty(&self) -> bool {
+        self.text.is_empty()
     }
 }
 
@@ -37,22 +56,19 @@ impl fmt::Display for Answer {
 }
 
 // An answer of one word.
-pub(super) fn said<D: fmt::Display + Drop>(heap: Global, word: D) -> Result<Answer, Failure> {
+pub(super) fn said<D: fmt::Display + Drop>(heap: Global, word: D) -> Answer {
     let mut answer = Answer::new(heap);
-    answer.say(word)?;
-    Ok(answer)
+    answer.say(word);
+    answer
 }
 
 // An answer of a word for each item.
-pub(super) fn said_all<D: fmt::Display + Copy>(
-    heap: Global,
-    words: &[D],
-) -> Result<Answer, Failure> {
+pub(super) fn said_all<D: fmt::Display + Copy>(heap: Global, words: &[D]) -> Answer {
     let mut answer = Answer::new(heap);
     for word in words {
-        answer.say(*word)?;
+        answer.say(*word);
     }
-    Ok(answer)
+    answer
 }
 
 pub(super) fn yes_or_no(holds: bool) -> &'static str {

@@ -41,7 +41,7 @@ impl<'a> Asked<'a> {
     fn ask(&self, question: &str) -> Result<Answer, Failure> {
         let question = bytes_of(self.heap, question)?;
         read_question(question.as_slice(), &self.pack.model.sizes)?;
-        said(self.heap, "accepted")
+        Ok(said(self.heap, "accepted"))
     }
 
     // Whether steps are a run that reaches a question.
@@ -49,7 +49,7 @@ impl<'a> Asked<'a> {
         let question = bytes_of(self.heap, question)?;
         let run = run_of(self.heap, run)?;
         let reached = run.reaches(self.pack, question.as_slice())?;
-        said(self.heap, yes_or_no(reached))
+        Ok(said(self.heap, yes_or_no(reached)))
     }
 
     fn formula(&self, role: &str) -> Result<Option<Part<'a>>, Failure> {
@@ -59,10 +59,10 @@ impl<'a> Asked<'a> {
     // Where a formula lies: the position of its first byte, and its length.
     fn part(&self, role: &str) -> Result<Answer, Failure> {
         let Some(part) = self.formula(role)? else {
-            return said(self.heap, "none");
+            return Ok(said(self.heap, "none"));
         };
-        let mut answer = said(self.heap, part.at)?;
-        answer.say(part.code.len())?;
+        let mut answer = said(self.heap, part.at);
+        answer.say(part.code.len());
         Ok(answer)
     }
 
@@ -70,23 +70,23 @@ impl<'a> Asked<'a> {
     fn code(&self, code: &str, role: &str) -> Result<Answer, Failure> {
         let code = bytes_of(self.heap, code)?;
         match self.formula(role)? {
-            Some(part) => said(self.heap, yes_or_no(part.code == code.as_slice())),
-            None => said(self.heap, "none"),
+            Some(part) => Ok(said(self.heap, yes_or_no(part.code == code.as_slice()))),
+            None => Ok(said(self.heap, "none")),
         }
     }
 
     // The number of values of each variable.
     fn variables(&self) -> Result<Answer, Failure> {
         match self.pack.model.sizes.counts() {
-            [] => said(self.heap, "none"),
-            counts => said_all(self.heap, counts),
+            [] => Ok(said(self.heap, "none")),
+            counts => Ok(said_all(self.heap, counts)),
         }
     }
 
     // The values of a valuation.
     fn values(&self, valuation: &str) -> Result<Answer, Failure> {
         let values = values(&self.pack.model.sizes, valuation.parse::<u16>()?);
-        said_all(self.heap, &values)
+        Ok(said_all(self.heap, &values))
     }
 
     // The valuation of eight values.
@@ -94,8 +94,8 @@ impl<'a> Asked<'a> {
         let values = bytes_of(self.heap, values)?;
         let values = <[u8; 8]>::try_from(values.as_slice()).map_err(|_| Failure::NoCase)?;
         match number(&self.pack.model.sizes, values) {
-            Some(valuation) => said(self.heap, valuation),
-            None => said(self.heap, "none"),
+            Some(valuation) => Ok(said(self.heap, valuation)),
+            None => Ok(said(self.heap, "none")),
         }
     }
 
@@ -132,9 +132,9 @@ impl<'a> Asked<'a> {
             Case::Part(role) => self.part(role),
             Case::Values(valuation) => self.values(valuation),
             Case::Variables => self.variables(),
-            Case::Clocks => said(self.heap, self.pack.model.sizes.clocks),
-            Case::Ceilings => said_all(self.heap, &ceilings(self.pack)),
-            Case::Valuations => said(self.heap, valuations(&self.pack.model.sizes)),
+            Case::Clocks => Ok(said(self.heap, self.pack.model.sizes.clocks)),
+            Case::Ceilings => Ok(said_all(self.heap, &ceilings(self.pack))),
+            Case::Valuations => Ok(said(self.heap, valuations(&self.pack.model.sizes))),
             Case::Timed(kind, tale, trials) => self.timed(kind, tale, trials),
             Case::Record(_) | Case::Read(_) => Err(Failure::NoCase),
         }

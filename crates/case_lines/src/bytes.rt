@@ -18,28 +18,26 @@ fn digit_of(c: u8) -> Result<u8, Failure> {
     }
 }
 
-fn byte_of(digits: &str) -> Result<u8, Failure> {
-    match digits.as_bytes() {
-        [high, low] => Ok(digit_of(*high)? << 4 | digit_of(*low)?),
-        _ => Err(Failure::NoCase),
-    }
+fn byte_of(high: u8, low: u8) -> Result<u8, Failure> {
+    Ok(digit_of(high)? << 4 | digit_of(low)?)
 }
 
-// Adds a byte, and how often it comes is told behind a star.
-fn add_repeated(bytes: &mut Vec<u8>, word: &str) -> Result<(), Failure> {
-    let (digits, times) = word.split_once('*').unwrap_or((word, "1"));
-    let times = number_of(times)? as usize;
-    bytes.resize(bytes.len().saturating_add(times), byte_of(digits)?)?;
+fn add_repeated(bytes: &mut Vec<u8>, byte: u8, times: u32) -> Result<(), Failure> {
+    bytes.resize(bytes.len().saturating_add(times as usize), byte)?;
     Ok(())
 }
 
-fn add_word(bytes: &mut Vec<u8>, word: &str) -> Result<(), Failure> {
-    if word == "-" {
-        return Ok(());
-    }
-    match word.strip_prefix('\'') {
-        Some(characters) => Ok(bytes.extend_from_slice(characters.as_bytes())?),
-        None => add_repeated(bytes, word),
+// Adds what a word says. Most words are a byte: it is looked for by the word's length, with no search
+// for a star.
+fn add_word(bytes: &mut Vec<u8>, word: &[u8]) -> Result<(), Failure> {
+    match word {
+        b"-" => Ok(()),
+        [b'\'', characters @ ..] => Ok(bytes.extend_from_slice(characters)?),
+        [high, low] => Ok(bytes.push(byte_of(*high, *low)?)?),
+        [high, low, b'*', times @ ..] => {
+            add_repeated(bytes, byte_of(*high, *low)?, number_of(times)?)
+        }
+        _ => Err(Failure::NoCase),
     }
 }
 
@@ -47,7 +45,7 @@ fn add_word(bytes: &mut Vec<u8>, word: &str) -> Result<(), Failure> {
 pub(super) fn bytes_of(heap: Global, text: &str) -> Result<Vec<u8>, Failure> {
     let mut bytes = Vec::new(heap);
     for word in text.split(' ') {
-        add_word(&mut bytes, word)?;
+        add_word(&mut bytes, word.as_bytes())?;
     }
     Ok(bytes)
 }

@@ -78,9 +78,8 @@ fn plain_of<'a>(name: &'a str, words: &'a str) -> Result<Case<'a>, Failure> {
     }
 }
 
-// Cases with words behind a slash.
-fn halved_of<'a>(text: &'a str, behind: &'a str) -> Result<Case<'a>, Failure> {
-    let (name, words) = headed(text);
+// Cases with what stands behind a slash. For most kinds that is nothing.
+fn halved_of<'a>(name: &'a str, words: &'a str, behind: &'a str) -> Result<Case<'a>, Failure> {
     match name {
         "run" => Ok(Case::Run {
             question: words,
@@ -90,17 +89,14 @@ fn halved_of<'a>(text: &'a str, behind: &'a str) -> Result<Case<'a>, Failure> {
             code: words,
             role: behind,
         }),
+        _ if behind.is_empty() => plain_of(name, words),
         _ => Err(Failure::NoCase),
     }
 }
 
-// The case that a text writes.
+// The case that a text writes. Where it has no slash, nothing is behind it.
 pub(super) fn case_of(text: &str) -> Result<Case<'_>, Failure> {
-    match text.split_once(" / ") {
-        Some((front, behind)) => halved_of(front, behind),
-        None => {
-            let (name, words) = headed(text);
-            plain_of(name, words)
-        }
-    }
+    let (front, behind) = text.split_once(" / ").unwrap_or((text, ""));
+    let (name, words) = headed(front);
+    halved_of(name, words, behind)
 }

@@ -49,10 +49,8 @@ fn refused(heap: Global, failure: Failure) -> Result<Answer, Failure> {
     let Failure::Refused(refusal) = failure else {
         return Err(failure);
     };
-    let mut answer = said(heap, "refused")?;
-    answer.say(refusal.number)?;
-    answer.say(refusal.section)?;
-    answer.say(refusal.position)?;
+    let mut answer = Answer::new(heap);
+    answer.refuse(refusal);
     Ok(answer)
 }
 
@@ -77,11 +75,11 @@ impl Session {
         match case {
             Case::Record(bytes) => {
                 self.kept = Some(kept_of(self.heap, bytes)?);
-                said(self.heap, "accepted")
+                Ok(said(self.heap, "accepted"))
             }
             Case::Read(bytes) => {
                 kept_of(self.heap, bytes)?;
-                said(self.heap, "accepted")
+                Ok(said(self.heap, "accepted"))
             }
             _ => self.asked(case),
         }
@@ -94,12 +92,16 @@ impl Session {
             .or_else(|failure| refused(heap, failure))
     }
 
-    // Nothing where the answer to the case of a line is the expected one, and else the answer.
+    // Nothing where the answer to the case of a line is the expected one, and else the answer. No answer is
+    // empty but for want of memory.
     fn wrong(&mut self, line: &str) -> Result<Option<Answer>, Failure> {
         let (text, expected) = line.split_once(" -> ").ok_or(Failure::NoCase)?;
         let answer = self.answer(text)?;
         if answer.is(expected) {
             return Ok(None);
+        }
+        if answer.is_empty() {
+            return Err(Failure::NoMemory);
         }
         Ok(Some(answer))
     }

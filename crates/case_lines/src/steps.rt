@@ -31,19 +31,21 @@ impl Run {
     }
 }
 
-// The numbers of a text that has just so many, with single blanks between them. A loop like it is in each
-// crate that reads numbers: they differ in what words and numbers are and in what they say is wrong, and a
-// shared one, with a contract of words and decimals, is no plainer.
+// The numbers of a text that has just so many, with single blanks between them and any before them. A loop
+// like it is in each crate that reads numbers: they differ in what words and numbers are and in what they say
+// is wrong, and a shared one, with a contract of words and decimals, is no plainer.
 fn numbers_of<const N: usize>(text: &str) -> Result<[u32; N], Failure> {
     let mut numbers = [0; N];
-    let words = text.trim_start_matches(' ').split(' ');
-    for (number, word) in numbers.iter_mut().zip(words) {
-        *number = number_of(word)?;
+    let text = text.trim_start_matches(' ').as_bytes();
+    // bytes, since a search through so short a text costs more than it spares
+    let mut words = text.split(|c| *c == b' ');
+    for number in &mut numbers {
+        *number = number_of(words.next().ok_or(Failure::NoCase)?)?;
     }
-    if text.trim_start_matches(' ').split(' ').count() != N {
-        return Err(Failure::NoCase);
+    match words.next() {
+        Some(_) => Err(Failure::NoCase),
+        None => Ok(numbers),
     }
-    Ok(numbers)
 }
 
 // The tests of runs have one too, which ends the test where a number is none.
@@ -56,11 +58,15 @@ fn step_of(text: &str) -> Result<Step, Failure> {
     })
 }
 
-// Adds a step, and how often it comes is told behind a star.
+// Adds a step, or as many as are told behind a star.
 fn add_steps(steps: &mut Vec<Step>, text: &str) -> Result<(), Failure> {
-    let (step, times) = text.split_once('*').unwrap_or((text, "1"));
-    let times = number_of(times)? as usize;
-    steps.resize(steps.len().saturating_add(times), step_of(step)?)?;
+    match text.split_once('*') {
+        None => steps.push(step_of(text)?)?,
+        Some((step, times)) => {
+            let times = number_of(times.as_bytes())? as usize;
+            steps.resize(steps.len().saturating_add(times), step_of(step)?)?;
+        }
+    }
     Ok(())
 }
 

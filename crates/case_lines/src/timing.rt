@@ -1,11 +1,11 @@
 // Trials in a kind of time: the places that they give, and the delays of the chains that they make.
-use super::answers::{Answer, said, yes_or_no};
+use super::answers::{Answer, said};
 use super::cases::Tale;
 use super::failures::Failure;
 use super::steps::Run;
-use kinds::{Clocked, Step, Time, Told, tried};
+use kinds::{Clocked, Step, Time, tried};
 use model::Pack;
-use std::alloc::{AllocError, Global};
+use std::alloc::Global;
 
 // A question that holds everywhere.
 const TRUE: &[u8] = b"t";
@@ -33,24 +33,26 @@ where
 {
     // Says what a trial gave: the valuation, and behind commas the declared clocks. A clock is `over`, or a
     // whole part and a rank with a dot between them, in ticked time a whole number.
-    fn say_given(&self, answer: &mut Answer, given: Option<K::Place>) -> Result<(), AllocError> {
+    fn say_given(&self, answer: &mut Answer, given: Option<K::Place>) {
         let Some(place) = given else {
-            return answer.say("nothing");
+            let nothing = if answer.is_empty() {
+                "nothing"
+            } else {
+                " nothing"
+            };
+            answer.add(nothing);
+            return;
         };
-        // what is told borrows the clocks that it is cut to, so no function can hand it out
-        let clocks = place.clocks();
-        let declared = clocks.len().min(self.pack.model.sizes.clocks as usize);
-        answer.say(Told {
-            front: "",
-            valuation: self.kind.valuation(place),
-            gap: ",",
-            clocks: &clocks[..declared],
-        })
+        answer.say(self.kind.valuation(place));
+        let declared = self.pack.model.sizes.clocks as usize;
+        for clock in place.clocks().iter().take(declared) {
+            answer.add(format_args!(",{clock}"));
+        }
     }
 
     // What each trial gives, from the place that was reached last; a start trial as long as there is
     // none.
-    fn places(&self, trials: &[u16]) -> Result<Answer, Failure> {
+    fn places(&self, trials: &[u16]) -> Answer {
         let mut answer = Answer::new(self.heap);
         let mut at = None;
         for trial in trials {
@@ -58,10 +60,10 @@ where
                 Some(place) => self.kind.step(*place, *trial),
                 None => self.kind.start(*trial),
             };
-            self.say_given(&mut answer, given)?;
+            self.say_given(&mut answer, given);
             at = given.or(at);
         }
-        Ok(answer)
+        answer
     }
 
     // The steps of a chain from a place.
@@ -88,26 +90,31 @@ where
         })
     }
 
-    // The denominator of a chain, the delays of these of its steps, and whether it is a run.
-    fn timing(&self, chain: &Run, steps: &[Step]) -> Result<Answer, Failure> {
-        let mut answer = said(self.heap, chain.parts)?;
+    // The denominator of a chain, the delays of these of its steps, and whether it is a run; where it is
+    // refused, its refusal with no blank before it.
+    fn timing(&self, chain: &Run, steps: &[Step]) -> Answer {
+        let mut answer = said(self.heap, chain.parts);
         for step in steps {
-            answer.say(step.delay)?;
+            answer.say(step.delay);
         }
-        answer.say(yes_or_no(chain.reaches(self.pack, TRUE)?))?;
-        Ok(answer)
+        match chain.reaches(self.pack, TRUE) {
+            Ok(true) => answer.add(" yes"),
+            Ok(false) => answer.add(" no"),
+            Err(fault) => answer.refuse(fault.into()),
+        }
+        answer
     }
 
     pub(super) fn told(&self, tale: Tale, text: &str) -> Result<Answer, Failure> {
         let trials = trials_of(self.heap, text)?;
         let trials = trials.as_slice();
         match tale {
-            Tale::Places => self.places(trials),
+            Tale::Places => Ok(self.places(trials)),
             Tale::Delays => {
                 let chain = self.chain(trials)?;
-                self.timing(&chain, chain.steps.as_slice())
+                Ok(self.timing(&chain, chain.steps.as_slice()))
             }
-            Tale::Denominator => self.timing(&self.chain(trials)?, &[]),
+            Tale::Denominator => Ok(self.timing(&self.chain(trials)?, &[])),
         }
     }
 }
