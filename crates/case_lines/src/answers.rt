@@ -20,16 +20,21 @@ impl Answer {
     }
 
     // Adds a text right behind what is said.
-    pub(super) fn add<D: fmt::Display + Drop>(&mut self, text: D) {
-        let _ = write!(self.text, "{text}");
+    pub(super) fn add(&mut self, text: &str) {
+        let _ = self.text.push_str(text);
     }
 
     // Adds a word.
     pub(super) fn say<D: fmt::Display + Drop>(&mut self, word: D) {
-        if !self.is_empty() {
-            self.add(" ");
+        if !self.text.is_empty() {
+            let _ = self.text.push(' ');
         }
-        self.add(word);
+        let _ = write!(self.text, "{word}");
+    }
+
+    // Adds an item, with a comma between it and what is said.
+    pub(super) fn list<D: fmt::Display + Drop>(&mut self, item: D) {
+        let _ = write!(self.text, ",{item}");
     }
 
     // Adds a refusal right behind what is said.

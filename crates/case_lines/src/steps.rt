@@ -34,11 +34,11 @@ impl Run {
 // The numbers of a text that has just so many, with single blanks between them and any before them. A loop
 // like it is in each crate that reads numbers: they differ in what words and numbers are and in what they say
 // is wrong, and a shared one, with a contract of words and decimals, is no plainer.
-fn numbers_of<const N: usize>(text: &str) -> Result<[u32; N], Failure> {
+fn numbers_of<const N: usize>(text: &[u8]) -> Result<[u32; N], Failure> {
     let mut numbers = [0; N];
-    let text = text.trim_start_matches(' ').as_bytes();
-    // bytes, since a search through so short a text costs more than it spares
-    let mut words = text.split(|c| *c == b' ');
+    let mut words = text
+        .split(|c| *c == b' ')
+        .skip_while(|word| word.is_empty());
     for number in &mut numbers {
         *number = number_of(words.next().ok_or(Failure::NoCase)?)?;
     }
@@ -49,7 +49,7 @@ fn numbers_of<const N: usize>(text: &str) -> Result<[u32; N], Failure> {
 }
 
 // The tests of runs have one too, which ends the test where a number is none.
-fn step_of(text: &str) -> Result<Step, Failure> {
+fn step_of(text: &[u8]) -> Result<Step, Failure> {
     let [kind, valuation, delay] = numbers_of::<3>(text)?;
     Ok(Step {
         kind: u8::try_from(kind).map_err(|_| Failure::NoCase)?,
@@ -59,24 +59,26 @@ fn step_of(text: &str) -> Result<Step, Failure> {
 }
 
 // Adds a step, or as many as are told behind a star.
-fn add_steps(steps: &mut Vec<Step>, text: &str) -> Result<(), Failure> {
-    match text.split_once('*') {
+fn add_steps(steps: &mut Vec<Step>, text: &[u8]) -> Result<(), Failure> {
+    match text.iter().position(|c| *c == b'*') {
         None => steps.push(step_of(text)?)?,
-        Some((step, times)) => {
-            let times = number_of(times.as_bytes())? as usize;
-            steps.resize(steps.len().saturating_add(times), step_of(step)?)?;
+        Some(star) => {
+            let step = step_of(&text[..star])?;
+            let times = number_of(&text[star + 1..])? as usize;
+            steps.resize(steps.len().saturating_add(times), step)?;
         }
     }
     Ok(())
 }
 
-// The run of a text. Behind its first comma there may be nothing.
+// The run of a text. Behind its first comma there may be nothing. Steps are short, so their bytes are looked
+// at one by one: a search in a text, for each comma, star and blank, takes twice as long.
 pub(super) fn run_of(heap: Global, text: &str) -> Result<Run, Failure> {
     let (first, rest) = text.split_once(',').unwrap_or((text, ""));
-    let [start, parts] = numbers_of::<2>(first)?;
+    let [start, parts] = numbers_of::<2>(first.as_bytes())?;
     let mut steps = Vec::new(heap);
     if !rest.is_empty() {
-        for text in rest.split(',') {
+        for text in rest.as_bytes().split(|c| *c == b',') {
             add_steps(&mut steps, text)?;
         }
     }

@@ -46,7 +46,7 @@ where
         answer.say(self.kind.valuation(place));
         let declared = self.pack.model.sizes.clocks as usize;
         for clock in place.clocks().iter().take(declared) {
-            answer.add(format_args!(",{clock}"));
+            answer.list(*clock);
         }
     }
 
