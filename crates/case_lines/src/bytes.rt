@@ -27,12 +27,10 @@ fn add_repeated(bytes: &mut Vec<u8>, byte: u8, times: u32) -> Result<(), Failure
     Ok(())
 }
 
-// Adds what a word says. Most words are a byte: it is looked for by the word's length, with no search
-// for a star.
-fn add_word(bytes: &mut Vec<u8>, word: &[u8]) -> Result<(), Failure> {
+// Adds what a word without a quote says. It is told by its length and its bytes, with no search for a star.
+fn add_plain(bytes: &mut Vec<u8>, word: &[u8]) -> Result<(), Failure> {
     match word {
         b"-" => Ok(()),
-        [b'\'', characters @ ..] => Ok(bytes.extend_from_slice(characters)?),
         [high, low] => Ok(bytes.push(byte_of(*high, *low)?)?),
         [high, low, b'*', times @ ..] => {
             add_repeated(bytes, byte_of(*high, *low)?, number_of(times)?)
@@ -41,11 +39,25 @@ fn add_word(bytes: &mut Vec<u8>, word: &[u8]) -> Result<(), Failure> {
     }
 }
 
-// The bytes of a text.
+fn add_word(bytes: &mut Vec<u8>, word: &[u8]) -> Result<(), Failure> {
+    match word {
+        [b'\'', characters @ ..] => Ok(bytes.extend_from_slice(characters)?),
+        _ => add_plain(bytes, word),
+    }
+}
+
+// The bytes of a text. A quoted word can be long, and the end of it is searched for. With no quote all words
+// are short, and their ends are found sooner by looking at each byte.
 pub(super) fn bytes_of(heap: Global, text: &str) -> Result<Vec<u8>, Failure> {
     let mut bytes = Vec::new(heap);
-    for word in text.split(' ') {
-        add_word(&mut bytes, word.as_bytes())?;
+    if text.contains('\'') {
+        for word in text.split(' ') {
+            add_word(&mut bytes, word.as_bytes())?;
+        }
+    } else {
+        for word in text.as_bytes().split(|c| *c == b' ') {
+            add_plain(&mut bytes, word)?;
+        }
     }
     Ok(bytes)
 }
