@@ -35,6 +35,7 @@ where
     // whole part and a rank with a dot between them, in ticked time a whole number.
     fn say_given(&self, answer: &mut Answer, given: Option<K::Place>) {
         let Some(place) = given else {
+            // the blank goes with the word, so where no memory is left neither is said
             let nothing = if answer.is_empty() {
                 "nothing"
             } else {
@@ -97,6 +98,7 @@ where
         for step in steps {
             answer.say(step.delay);
         }
+        // as above, the blank goes with the word
         match chain.reaches(self.pack, TRUE) {
             Ok(true) => answer.add(" yes"),
             Ok(false) => answer.add(" no"),
