@@ -85,7 +85,7 @@ fn trims(clocks: [Clock; 4], ceilings: [u16; 4]) -> [Clock; 4]
 pub fn some_sharp(clocks: [Clock; 4]) -> bool
     ensures { result ≡ any_sharp 4 (at clocks) }
 {
-    clocks.into_iter().any(|clock| clock.is_sharp())
+    clocks.iter().any(|clock| clock.is_sharp())
 }
 
 // The highest rank of a clock.

@@ -60,9 +60,9 @@ impl Course<'_> {
         let valuation = step.valuation as u16;
         let old = values(&pack.model.sizes, at.valuation);
         let new = values(&pack.model.sizes, valuation);
-        let moment = self.moment(at.clocks);
+        let before = self.moment(at.clocks);
         let shown = Seen {
-            reading: &moment,
+            reading: &before,
             values: &old,
             next: &new,
         };
