@@ -5,7 +5,6 @@ ghost use Rattle.regions.specs.Gaps.{Gapless};
 ghost use Rattle.regions.specs.Regions.{renamed, tidy};
 
 use super::clocks::Clock;
-use std::array;
 
 // How many ranks from 1 on are in use, up to the given one.
 fn count_to(mask: u32, rank: u8) -> u8
@@ -57,7 +56,7 @@ fn ranks(clocks: [Clock; 4]) -> u32
 fn closes(clocks: [Clock; 4], mask: u32) -> [Clock; 4]
     ensures { result ≡ four_of (λ c. renamed (ones_to mask) (capped (at clocks c))) }
 {
-    array::from_fn(|c| clocks[c].closed(mask))
+    clocks.map(|clock| clock.closed(mask))
 }
 
 // Closes the gaps between the ranks in use.
