@@ -36,7 +36,9 @@ pub trait Trials {
         ensures { result ≡ (making self.now).passing values.now place };
 }
 
-// A valuation with all clocks 0, if it begins a run.
+// A valuation with all clocks 0, if it begins a run. Never inlined, so that a trial that there is not ends before
+// room is made for what a place needs.
+#[inline(never)]
 fn begins<T: Trials>(time: &T, values: &[u8; 8], valuation: u16) -> Option<T::Place>
     ensures { result ≡ beginning T.Place.side (T.making time.now) values.now valuation }
 {
