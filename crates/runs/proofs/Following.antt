@@ -60,16 +60,7 @@ module _ (S : ℕ) (steps : List Step) where
 abbrev pub Leading : Course → List ℕ → State → List Step → Type 0
 Leading course question s steps = Leads (table_of course) (asked question (model_of course)) course.unit s steps
 
-module _ (course : Course) (question : List ℕ) where
-  abbrev T : Table
-  T = table_of course
-
-  abbrev q : View → Bool
-  q = asked question (model_of course)
-
-  abbrev D : ℕ
-  D = course.unit
-
+module _ (T : Table) (q : View → Bool) (D : ℕ) where
   -- a step leads to one state only
   only : {s : State} {p : Step} {t u : State} → OneStep T D s p t → OneStep T D s p u → t ≡ u
   only (waits k v e) (waits i w f) = refl

@@ -1,6 +1,7 @@
 use Rattle.std.proofs.Common.{◌<◌, get_or, sym, refl, ◌∙◌, arith}
 use Rattle.kinds.specs.declared.steps.Step.{Step}
-use Rattle.runs.specs.Courses.{table_of, size_of}
+use Rattle.runs.specs.Courses.{table_of, model_of, size_of}
+use Rattle.tables.specs.Tables.{asked}
 use Rattle.runs.specs.Runs.{OneStep}
 use Rattle.runs.specs.Steps.{state_of}
 use Rattle.runs.proofs.Following.{stay-small, fine_more, each-fine, ahead, behind, nowhere, arrived}
@@ -20,13 +21,13 @@ next_state-requires c =
 
 pub returns-in_default : goal.returns-in_default
 returns-in_default c =
-    nowhere c.args.self.now c.args.question.now c.args.steps.now c.steps.step-index none (state_of c.steps.at) c.steps-test.true
+    nowhere (table_of c.args.self.now) (asked c.args.question.now (model_of c.args.self.now)) c.args.self.now.unit c.args.steps.now c.steps.step-index none (state_of c.steps.at) c.steps-test.true
     (c.in_default.ensures.is.stuck refl) c.steps.invariant.3
 
 pub steps-preserved : goal.steps-preserved
 steps-preserved c =
     let course = c.args.self.now in
-    let question = c.args.question.now in
+    let question = asked c.args.question.now (model_of course) in
     let ps = c.args.steps.now in
     let i = c.steps.step-index in
     let s = state_of c.steps.at in
@@ -35,11 +36,11 @@ steps-preserved c =
     let f = each-fine (size_of course) ps i none c.steps-test.true c.steps.invariant.0 in (
       sym (fine_more (size_of course) ps i none c.steps-test.true f) ∙ c.steps.invariant.0,
       stay-small (table_of course) course.unit i s (get_or ps i none) c.in-Some.ensures.short c.steps.invariant.1 o,
-      ahead course question ps i none s t c.steps-test.true o c.steps.invariant.2,
-      behind course question ps i none s t c.steps-test.true o c.steps.invariant.3,
+      ahead (table_of course) question course.unit ps i none s t c.steps-test.true o c.steps.invariant.2,
+      behind (table_of course) question course.unit ps i none s t c.steps-test.true o c.steps.invariant.3,
     )
 
 pub returns : goal.returns
 returns c =
-    arrived c.args.self.now c.args.question.now c.args.steps.now c.steps.step-index (state_of c.steps.at) c.asks.result c.steps-test.false c.asks.ensures
+    arrived (table_of c.args.self.now) (asked c.args.question.now (model_of c.args.self.now)) c.args.self.now.unit c.args.steps.now c.steps.step-index (state_of c.steps.at) c.asks.result c.steps-test.false c.asks.ensures
     c.steps.invariant.2 c.steps.invariant.3
