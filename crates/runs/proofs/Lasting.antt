@@ -42,21 +42,9 @@ wait-at course xs ms m t e s = subst (λ n. Soonest n.unit n.clocks ms t) e s
 abbrev pub Lasts : Course → List ℕ → List ℕ → ℕ → Type 0
 Lasts course vs xs d = Always (lasting_in course vs) course.unit (λ c. get_or xs c 0) d
 
-module _ (course : Course) (vs xs : List ℕ) where
-  abbrev inv : (ℕ → ℕ → Side) → Bool
-  inv = lasting_in course vs
-
-  abbrev D : ℕ
-  D = course.unit
-
-  abbrev ms : List ℕ
-  ms = course.setting.ceilings
-
+module _ (inv : (ℕ → ℕ → Side) → Bool) (D : ℕ) (xs ms : List ℕ) (dep : Depends (λ c. get_or ms c 0) inv) where
   abbrev Now : ℕ → Type 0
-  Now = Lasts course vs xs
-
-  abbrev dep : Depends (λ c. get_or ms c 0) inv
-  dep = holds-by course vs
+  Now d = Always inv D (λ c. get_or xs c 0) d
 
   after_is : (ys : List ℕ) → ys ≡ four_of (λ c. 2 * get_or xs c 0 + 1) → true ≡ inv (sides_at (2 * D) (λ c. get_or ys c 0)) → inv (sides_at (2 * D) (λ c. 2 * get_or xs c 0 + 1)) ≡ true
   after_is ys e f =

@@ -22,16 +22,7 @@ use Rattle.runs.specs.Instants.{sides_at}
 use Rattle.runs.proofs.Four.{at-four}
 use Rattle.runs.proofs.Lasting.{Lasts, holds-by}
 
-module _ (course : Course) (at : Reached) (p : Step) where
-  abbrev T : Table
-  T = table_of course
-
-  abbrev D : ℕ
-  D = course.unit
-
-  abbrev s : State
-  s = state_of at
-
+module _ (T : Table) (D : ℕ) (s : State) (p : Step) where
   none : ((t : State) → OneStep T D s p t → ⊥) → Next T D s p None
   none h = record { taken = λ a e. absurd (let z : ◌≡◌ {A = ℕ} 0 1 = cc in omega arith); stuck = λ _. h }
 
