@@ -1,12 +1,11 @@
 -- A step is taken exactly when its tests pass.
-use Rattle.std.proofs.Common.{◌≡◌, ℕ, ◌+◌, ◌*◌, ◌<◌, ◌≤◌, Bool, true, false, cond, List, get_or, Some, None, sym, ap, ◌∙◌, subst, arith}
+use Rattle.std.proofs.Common.{◌≡◌, ℕ, ◌+◌, ◌*◌, ◌<◌, ◌≤◌, true, false, cond, List, get_or, Some, None, sym, ap, ◌∙◌, subst, arith}
 use Rattle.std.proofs.lemmas.Bool.{both_ways}
 use Rattle.instruction.specs.Counts.{value_counts}
 use Rattle.instruction.specs.Sizes.{product}
-use Rattle.judging.specs.Truth.{View, compared}
-use Rattle.judging.specs.declared.sides.Side.{Side}
+use Rattle.judging.specs.Truth.{compared}
 use Rattle.judging.specs.Judging.{seen}
-use Rattle.model.specs.declared.layout.Role.{Role}
+use Rattle.model.specs.declared.layout.Model.{Model}
 use Rattle.model.specs.declared.layout.Role.TheVariants.{Reset, Transition}
 use Rattle.valuations.specs.Radix.{padded}
 use Rattle.runs.specs.declared.reached.Reached.{Reached}
@@ -15,12 +14,11 @@ use Rattle.tables.specs.Tables.{Table}
 use Rattle.runs.specs.Runs.{State, four_of, view, now, later, finer, moved, Elapses, Moves, OneStep, waits, moves}
 use Rattle.runs.specs.declared.courses.Course.{Course}
 use Rattle.runs.specs.declared.moments.Moment.{Moment}
-use Rattle.runs.specs.Courses.{bytes_of, model_of, table_of, lasting_in}
+use Rattle.runs.specs.Courses.{bytes_of, model_of}
 use Rattle.runs.specs.Steps.{state_of, Next}
-use Rattle.tables.specs.Tables.{says_of}
-use Rattle.runs.specs.Instants.{sides_at}
+use Rattle.tables.specs.Tables.{says_of, table_in, lasting}
+use Rattle.runs.specs.Instants.{sides_at, Depends, Always}
 use Rattle.runs.proofs.Four.{at-four}
-use Rattle.runs.proofs.Lasting.{Lasts, holds-by}
 
 module _ (T : Table) (D : ℕ) (s : State) (p : Step) where
   none : ((t : State) → OneStep T D s p t → ⊥) → Next T D s p None
@@ -68,23 +66,19 @@ abbrev pub valued : Course → ℕ → List ℕ
 valued course v = padded (value_counts (model_of course).sizes) v
 
 -- the invariant over a delay, as the definition of runs says it
-module _ (course : Course) (v : ℕ) (xs : List ℕ) where
+module _ (bs : List ℕ) (m : Model) (ms : List ℕ) (D v : ℕ) (xs : List ℕ) (dep : Depends (λ c. get_or ms c 0) (lasting bs m (padded (value_counts m.sizes) v))) where
   abbrev state : State
   state = record { valuation = v; clocks = xs }
 
-  -- the moment after e of n times finer parts
-  abbrev moment : ℕ → ℕ → View
-  moment n e = now (table_of course) (n * course.unit) (later (finer n state) e)
-
-  same : (n e : ℕ) → (table_of course).invariant (moment n e) ≡ lasting_in course (valued course v) (sides_at (n * course.unit) (λ c. n * get_or xs c 0 + e))
+  same : (n e : ℕ) → (table_in bs m).invariant (now (table_in bs m) (n * D) (later (finer n state) e)) ≡ lasting bs m (padded (value_counts m.sizes) v) (sides_at (n * D) (λ c. n * get_or xs c 0 + e))
   same n e =
-      holds-by course (valued course v) (λ c j. compared (get_or (four_of (λ k. get_or (four_of (λ i. n * get_or xs i 0)) k 0 + e)) c 0) (j * (n * course.unit))) (sides_at (n * course.unit) (λ c. n * get_or xs c 0 + e))
-      (λ c j h _. ap (λ x. compared x (j * (n * course.unit))) (at-four (λ k. get_or (four_of (λ i. n * get_or xs i 0)) k 0 + e) c h ∙ ap (λ x. x + e) (at-four (λ i. n * get_or xs i 0) c h)))
+      dep (λ c j. compared (get_or (four_of (λ k. get_or (four_of (λ i. n * get_or xs i 0)) k 0 + e)) c 0) (j * (n * D))) (sides_at (n * D) (λ c. n * get_or xs c 0 + e))
+      (λ c j h _. ap (λ x. compared x (j * (n * D))) (at-four (λ k. get_or (four_of (λ i. n * get_or xs i 0)) k 0 + e) c h ∙ ap (λ x. x + e) (at-four (λ i. n * get_or xs i 0) c h)))
 
-  pub to-run : (d : ℕ) → Lasts course (valued course v) xs d → (n e : ℕ) → 1 ≤ n → 0 < e → e ≤ n * d → (table_of course).invariant (moment n e) ≡ true
+  pub to-run : (d : ℕ) → Always (lasting bs m (padded (value_counts m.sizes) v)) D (λ c. get_or xs c 0) d → (n e : ℕ) → 1 ≤ n → 0 < e → e ≤ n * d → (table_in bs m).invariant (now (table_in bs m) (n * D) (later (finer n state) e)) ≡ true
   to-run d a n e g h l = same n e ∙ a n e g h l
 
-  pub from-run : (d : ℕ) → ((n e : ℕ) → 1 ≤ n → 0 < e → e ≤ n * d → (table_of course).invariant (moment n e) ≡ true) → Lasts course (valued course v) xs d
+  pub from-run : (d : ℕ) → ((n e : ℕ) → 1 ≤ n → 0 < e → e ≤ n * d → (table_in bs m).invariant (now (table_in bs m) (n * D) (later (finer n state) e)) ≡ true) → Always (lasting bs m (padded (value_counts m.sizes) v)) D (λ c. get_or xs c 0) d
   from-run d a n e g h l = sym (same n e) ∙ a n e g h l
 
 -- the clocks after a discrete step from a moment of a course
@@ -93,28 +87,24 @@ cleared-at course xs olds news m e =
     ap (λ n. four_of (λ k. cond (says_of (bytes_of course) (model_of course) (Reset k) (seen olds news (sides_at n.unit (λ c. get_or n.clocks c 0)))) 0 (get_or n.clocks k 0))) e
 
 -- what is judged in a discrete step, as the definition of runs says it
-module _ (course : Course) (v w : ℕ) (xs olds news : List ℕ) (o : olds ≡ valued course v) (n : news ≡ valued course w) where
+module _ (bs : List ℕ) (m : Model) (D v w : ℕ) (xs olds news : List ℕ) (o : olds ≡ padded (value_counts m.sizes) v) (n : news ≡ padded (value_counts m.sizes) w) where
   abbrev before : State
   before = record { valuation = v; clocks = xs }
 
-  abbrev sides : ℕ → ℕ → Side
-  sides = sides_at course.unit (λ c. get_or xs c 0)
-
-  abbrev says : Role → List ℕ → List ℕ → Bool
-  says r ys zs = says_of (bytes_of course) (model_of course) r (seen ys zs sides)
-
-  pub allowed-is : says Transition olds news ≡ (table_of course).transition (view (table_of course) course.unit before w)
-  allowed-is = ap (λ y. says Transition y news) o ∙ ap (says Transition (valued course v)) n
+  pub allowed-is : says_of bs m Transition (seen olds news (sides_at D (λ c. get_or xs c 0))) ≡ (table_in bs m).transition (view (table_in bs m) D before w)
+  allowed-is =
+      ap (λ y. says_of bs m Transition (seen y news (sides_at D (λ c. get_or xs c 0)))) o
+      ∙ ap (λ y. says_of bs m Transition (seen (padded (value_counts m.sizes) v) y (sides_at D (λ c. get_or xs c 0)))) n
 
   abbrev cleared : List ℕ → List ℕ → List ℕ
-  cleared ys zs = four_of (λ k. cond (says (Reset k) ys zs) 0 (get_or xs k 0))
+  cleared ys zs = four_of (λ k. cond (says_of bs m (Reset k) (seen ys zs (sides_at D (λ c. get_or xs c 0)))) 0 (get_or xs k 0))
 
-  pub clocks-are : (zs : List ℕ) → zs ≡ cleared olds news → moved (table_of course) course.unit before w ≡ record { valuation = w; clocks = zs }
+  pub clocks-are : (zs : List ℕ) → zs ≡ cleared olds news → moved (table_in bs m) D before w ≡ record { valuation = w; clocks = zs }
   clocks-are zs e =
-      let f : zs ≡ cleared (valued course v) (valued course w) = e ∙ ap (λ y. cleared y news) o ∙ ap (cleared (valued course v)) n in
+      let f : zs ≡ cleared (padded (value_counts m.sizes) v) (padded (value_counts m.sizes) w) = e ∙ ap (λ y. cleared y news) o ∙ ap (λ y. cleared (padded (value_counts m.sizes) v) y) n in
       ap (λ y. record { valuation = w; clocks = y }) (sym f)
 
-  pub valid-is : (zs : List ℕ) → zs ≡ cleared olds news → lasting_in course news (sides_at course.unit (λ c. get_or zs c 0)) ≡ (table_of course).invariant (now (table_of course) course.unit (moved (table_of course) course.unit before w))
+  pub valid-is : (zs : List ℕ) → zs ≡ cleared olds news → lasting bs m news (sides_at D (λ c. get_or zs c 0)) ≡ (table_in bs m).invariant (now (table_in bs m) D (moved (table_in bs m) D before w))
   valid-is zs e =
-      ap (λ y. lasting_in course y (sides_at course.unit (λ c. get_or zs c 0))) n
-      ∙ ap (λ t. (table_of course).invariant (now (table_of course) course.unit t)) (sym (clocks-are zs e))
+      ap (λ y. lasting bs m y (sides_at D (λ c. get_or zs c 0))) n
+      ∙ ap (λ t. (table_in bs m).invariant (now (table_in bs m) D t)) (sym (clocks-are zs e))
